@@ -1,0 +1,88 @@
+-- What an answer means is one to one, so each promise leaves one outcome. Assumes nothing.
+use mathlib.Core.Path.{_≡_, refl, sym, ap, _∙_}
+use mathlib.Core.Bool.{false}
+use mathlib.Core.List.{List}
+use Prim.Native.Nat.{ℕ, zero, suc, _-_}
+use native.Mathlib.Omega.{arith}
+use lib.Dec.{eqb}
+use borrow.Author.Tests.{ne-eqb}
+use Rattle.record.specs.Refusals.{numberOf, placeOf, meaning, readVerdict, readBlock}
+use Rattle.record.specs.Layout.{noBlock, decoded}
+use Rattle.record.specs.Promises.{Reads, Writes}
+use Rattle.record.specs.declared.Answer.{Answer}
+use Rattle.record.specs.declared.Answer.the-variants.{Accepted, Refused}
+use Rattle.record.specs.declared.Block.{Block}
+use Rattle.record.specs.declared.Reading.{Reading}
+use Rattle.record.specs.declared.Reason.{Reason}
+use Rattle.record.specs.declared.Reason.the-variants.{Length, Check, Letters, Header, Rule, Output, Latencies, Latency, State}
+
+-- refusals are numbered from 1
+pub number-above : (r : Reason) → numberOf r ≡ suc (numberOf r - 1)
+number-above Length = refl
+number-above Check = refl
+number-above Letters = refl
+number-above (Header k) = refl
+number-above (Rule i) = refl
+number-above Output = refl
+number-above Latencies = refl
+number-above (Latency i) = refl
+number-above State = refl
+
+pub refused-not : (r : Reason) → eqb (numberOf r) 0 ≡ false
+refused-not r = ne-eqb (numberOf r) 0 (λ e. omega (arith, number-above r))
+
+-- the answer of a number and a place
+named : ℕ → ℕ → Answer
+named zero p = Accepted
+named (suc zero) p = Refused Length
+named (suc (suc zero)) p = Refused Check
+named (suc (suc (suc zero))) p = Refused Letters
+named (suc (suc (suc (suc zero)))) p = Refused (Header p)
+named (suc (suc (suc (suc (suc zero))))) p = Refused (Rule p)
+named (suc (suc (suc (suc (suc (suc zero)))))) p = Refused Output
+named (suc (suc (suc (suc (suc (suc (suc zero))))))) p = Refused Latencies
+named (suc (suc (suc (suc (suc (suc (suc (suc zero)))))))) p = Refused (Latency p)
+named (suc (suc (suc (suc (suc (suc (suc (suc (suc k))))))))) p = Refused State
+
+named-back : (a : Answer) → named (meaning a .0) (meaning a .1) ≡ a
+unfolding named
+named-back Accepted = refl
+named-back (Refused Length) = refl
+named-back (Refused Check) = refl
+named-back (Refused Letters) = refl
+named-back (Refused (Header k)) = refl
+named-back (Refused (Rule i)) = refl
+named-back (Refused Output) = refl
+named-back (Refused Latencies) = refl
+named-back (Refused (Latency i)) = refl
+named-back (Refused State) = refl
+
+pub meaning-one : (a b : Answer) → meaning a ≡ meaning b → a ≡ b
+meaning-one a b e = sym (named-back a) ∙ ap (λ (p : ℕ × ℕ). named (p .0) (p .1)) e ∙ named-back b
+
+-- two outcomes, an answer and a value each, that mean one verdict and are one value
+pub outcome-one : {A : Type 0} (a b : Answer) (x y : A) {v : ℕ × ℕ} {z : A} → meaning a ≡ v → x ≡ z → meaning b ≡ v → y ≡ z → (a ≡ b) × (x ≡ y)
+outcome-one a b x y p e q f = (meaning-one a b (p ∙ sym q), e ∙ sym f)
+
+abbrev reading : Answer → Block → Reading
+reading a b = record { answer = a; block = b }
+
+-- reading has one outcome
+pub read-one : (s : List ℕ) (x y : Reading) → Reads s x → Reads s y → x ≡ y
+read-one s x y p q =
+    let o = outcome-one (x .answer) (y .answer) (x .block) (y .block) (p .answer) (p .block) (q .answer) (q .block) in
+    ap (λ (a : Answer). reading a (x .block)) (o .0) ∙ ap (λ (b : Block). reading (y .answer) b) (o .1)
+
+-- writing has one outcome
+pub write-one : (b : Block) (o : List ℕ) (x y : Answer) (p q : List ℕ) → Writes b o x p → Writes b o y q → (x ≡ y) × (p ≡ q)
+write-one b o x y p q u v = outcome-one x y p q (u .answer) (u .output) (v .answer) (v .output)
+
+-- a reading that refuses by a reason whose number and place are the record's, and one that accepts
+module _ (s : List ℕ) (x : Reading) where
+  pub read-refused : (r : Reason) → readVerdict s ≡ (numberOf r, placeOf r) → (x .answer ≡ Refused r) × (x .block ≡ noBlock) → Reads s x
+  unfolding readBlock
+  read-refused r e h = record { answer = ap meaning (h .0) ∙ sym e; block = rw (e, refused-not r) (h .1) }
+
+  pub read-accepted : readVerdict s ≡ (0, 0) → x .answer ≡ Accepted → x .block ≡ decoded s → Reads s x
+  unfolding readBlock
+  read-accepted e a h = record { answer = ap meaning a ∙ sym e; block = rw e h }

@@ -1,0 +1,38 @@
+-- `record::writer::put_entries` meets its contract: the entries passed stand behind the header, and the rest is as it was. Assumes nothing.
+use mathlib.Core.Path.{_≡_, _∙_}
+use Prim.Native.Nat.{_≤_, _-_}
+use lib.ListN.{length}
+use Rattle.record.specs.Layout.{entriesBytes}
+use Rattle.record.proofs.Writes.{entriesIn, entries-none, entries-more, entries-all}
+use borrow.Author.Needs.{needs}
+use Rattle.record.proofs.writer.put_entries.Statement.{statement}
+use Rattle.record.proofs.writer.put_entries.Tie as tie
+
+abbrev Inv-loop : tie.InvT-loop
+Inv-loop out₀ b i₀ out i = (i ≤ 60) × (length out ≡ 512) × (out ≡ entriesIn b out₀ i)
+
+abbrev μ-loop : tie.MeasureT-loop
+μ-loop out₀ b i₀ out i = 60 - i
+
+loop-holds : tie.Need-loop-holds Inv-loop μ-loop
+loop-holds c = (search needs, search needs, entries-none (c .before .args .t1) (c .before .args .out .now))
+
+loop-again : tie.Need-loop-again Inv-loop μ-loop
+loop-again c =
+    let p = c .before .before .put-entry in
+    let t = c .before .before .before .before .before .before .loop in
+    let x = c .before .before .before .before .before .before .before .before .args in
+    (search needs, search needs, p .ensures ∙ rw (t .inv .2) (entries-more (x .t1) (x .out .now) (t .i) (search needs) (search needs)))
+
+returns : tie.Need-returns Inv-loop μ-loop
+returns c =
+    let t = c .before .loop in
+    let x = c .before .before .before .args in
+    let e : t .i ≡ 60 = search needs in
+    rw (t .inv .2, e) (entries-all (x .t1) (x .out .now))
+
+pub put-entries-spec : {M : Type 1} → statement M
+put-entries-spec =
+    tie.close
+    (tie.spec Inv-loop μ-loop loop-holds (λ c. search needs) (λ c. search needs) (λ c. search needs) (λ c. search needs)
+    (λ c κs. search needs) (λ c. search needs) (λ c. search needs) loop-again (λ c. search needs) returns)

@@ -1,0 +1,119 @@
+-- Refusal numbers, tested in this order. The definitions stand in the order of the table.
+use Prim.Native.Nat.{ℕ}
+use mathlib.Core.Bool.{Bool, not}
+use mathlib.Core.List.{List, [], _∷_, _++_}
+use lib.ListN.{length}
+use lib.Dec.{ltb, eqb}
+use Rattle.seqs.specs.Lists.{pick, least}
+use Rattle.seqs.specs.Bytes.{little}
+use Rattle.record.specs.Check.{checkOf}
+use Rattle.record.specs.Rules.{outside, broken}
+use Rattle.record.specs.Layout.{encoded, decoded, noBlock}
+use Rattle.record.specs.declared.Block.{Block}
+use Rattle.record.specs.declared.Reason.{Reason}
+use Rattle.record.specs.declared.Reason.the-variants.{Length, Check, Letters, Header, Rule, Output, Latencies, Latency, State}
+use Rattle.record.specs.declared.Answer.{Answer}
+use Rattle.record.specs.declared.Answer.the-variants.{Accepted, Refused}
+
+-- the number of a reason, and the place where it varies
+abbrev pub numberOf : Reason → ℕ
+numberOf Length = 1
+numberOf Check = 2
+numberOf Letters = 3
+numberOf (Header k) = 4
+numberOf (Rule i) = 5
+numberOf Output = 6
+numberOf Latencies = 7
+numberOf (Latency i) = 8
+numberOf State = 9
+
+abbrev pub placeOf : Reason → ℕ
+placeOf Length = 0
+placeOf Check = 0
+placeOf Letters = 0
+placeOf (Header k) = k
+placeOf (Rule i) = i
+placeOf Output = 0
+placeOf Latencies = 0
+placeOf (Latency i) = i
+placeOf State = 0
+
+-- what an answer means: "A refusal is a number with the place of the first fault"; accepted is 0 and 0
+abbrev pub meaning : Answer → ℕ × ℕ
+meaning Accepted = (0, 0)
+meaning (Refused r) = (numberOf r, placeOf r)
+
+-- a line of the table: its number, whether the refusal is given, its place
+pub record Test : Type 0 where
+  pub number : ℕ
+  pub given : Bool
+  pub place : ℕ
+
+abbrev pub test : ℕ → Bool → ℕ → Test
+test k g p = record { number = k; given = g; place = p }
+
+-- a line whose place is the lowest from a on and below b at which there is a fault
+abbrev pub lowest : ℕ → ℕ → ℕ → (ℕ → Bool) → Test
+lowest k a b fault = test k (ltb (least a b fault) b) (least a b fault)
+
+-- number and place of the first refusal that is given; 0 and 0 where none is
+unfoldable pub verdict : List Test → ℕ × ℕ
+verdict [] = (0, 0)
+verdict (t ∷ ts) = pick (t .given) (t .number, t .place) (verdict ts)
+
+-- "1 | record not 512 bytes | 0"
+unfoldable pub lengthTest : List ℕ → Test
+lengthTest s = test 1 (not (eqb (length s) 512)) 0
+
+-- "2 | check differs | 0"
+unfoldable pub checkTest : List ℕ → Test
+checkTest s = test 2 (not (eqb (checkOf s) (little 4 s 508))) 0
+
+-- "3 | letters differ | 0"
+unfoldable pub lettersTest : List ℕ → Test
+lettersTest s = test 3 (ltb (least 0 4 (outside s)) 4) 0
+
+-- "4 | header byte 4–27 outside its range | lowest such byte"
+unfoldable pub headerTest : List ℕ → Test
+headerTest s = lowest 4 4 28 (outside s)
+
+-- "5 | an entry breaks its rule | lowest such entry, 0–59"
+unfoldable pub entryTest : List ℕ → Test
+entryTest s = lowest 5 0 60 (broken s)
+
+-- "6 | output length wrong | 0"
+unfoldable pub outputTest : Bool → Test
+outputTest right = test 6 (not right) 0
+
+-- "Each operation makes the tests that its inputs have": a byte string is tested by 1 to 5
+unfoldable pub readTests : List ℕ → List Test
+readTests s = lengthTest s ∷ checkTest s ∷ lettersTest s ∷ headerTest s ∷ entryTest s ∷ []
+
+-- "Writer, analysis and play test a block value by 4 and 5 with the same places": the places of its record
+unfoldable pub blockTests : Block → List Test
+blockTests b = headerTest (encoded b) ∷ entryTest (encoded b) ∷ []
+
+-- "Output lengths: exactly 512 for a record"
+unfoldable pub writeTests : Block → List ℕ → List Test
+writeTests b o = blockTests b ++ (outputTest (eqb (length o) 512) ∷ [])
+
+-- the verdicts of a byte string, of a block value, and of a write of b to an output that holds o
+abbrev pub readVerdict : List ℕ → ℕ × ℕ
+readVerdict s = verdict (readTests s)
+
+abbrev pub blockVerdict : Block → ℕ × ℕ
+blockVerdict b = verdict (blockTests b)
+
+abbrev pub writeVerdict : Block → List ℕ → ℕ × ℕ
+writeVerdict b o = verdict (writeTests b o)
+
+abbrev pub accepts : ℕ × ℕ → Bool
+accepts v = eqb (v .0) 0
+
+-- "any other value handed back beside a refusal is all zero"
+unfoldable pub readBlock : List ℕ → Block
+readBlock s = pick (accepts (readVerdict s)) (decoded s) noBlock
+
+-- at a refusal "no lent byte or number is written": what the output holds at the end
+unfoldable pub written : Block → List ℕ → List ℕ
+written b o = pick (accepts (writeVerdict b o)) (encoded b) o

@@ -1,0 +1,57 @@
+// The block record: its value, its refusals, its check, its reader and its writer.
+mod reader;
+mod rules;
+mod sums;
+mod writer;
+
+pub use reader::read;
+pub use sums::check_of;
+pub use sums::four_at;
+pub use sums::seal;
+pub use writer::block_answer;
+pub use writer::write;
+
+pub struct Entry {
+    pub kind: u8,
+    pub lo: u8,
+    pub hi: u8,
+    pub writes: u8,
+    pub reads1: u8,
+    pub reads2: u8,
+}
+
+pub struct Block {
+    pub n: u8,
+    pub q: u8,
+    pub w: u8,
+    pub f: u8,
+    pub d: u8,
+    pub c: u8,
+    pub origin: u8,
+    pub number: u32,
+    pub entries: [Entry; 60],
+}
+
+// Why an input is refused, for every operation of the bench, with the place where it varies.
+pub enum Reason {
+    Length,
+    Check,
+    Letters,
+    Header(usize),
+    Rule(usize),
+    Output,
+    Latencies,
+    Latency(usize),
+    State,
+}
+
+pub enum Answer {
+    Accepted,
+    Refused(Reason),
+}
+
+// What reading gives: the answer, and beside it the block.
+pub struct Reading {
+    pub answer: Answer,
+    pub block: Block,
+}

@@ -1,0 +1,150 @@
+// The tests of a block value, and the writer.
+ghost use mathlib.Core.Path.{_≡_};
+ghost use mathlib.Core.List.{_++_};
+ghost use Prim.Native.Nat.{_+_, _≤_};
+ghost use lib.ListN.{length, drop};
+ghost use Rattle.seqs.specs.Lists.{least, put};
+ghost use Rattle.record.specs.Rules.{broken};
+ghost use Rattle.record.specs.Layout.{headBytes, entryBytes, entriesBytes, encoded};
+ghost use Rattle.record.specs.Refusals.{meaning, blockVerdict};
+ghost use Rattle.record.specs.Promises.{Writes};
+use crate::Answer;
+use crate::Block;
+use crate::Entry;
+use crate::Reason;
+use crate::rules::entry_ok;
+use crate::rules::header_fault;
+use crate::sums::seal;
+
+fn head_bytes(b: Block) -> [u8; 28]
+    ensures { λ r. ⌜ r ≡ headBytes b ⌝ }
+{
+    let x = b.number;
+    let y = x / 256;
+    let z = y / 256;
+    let u = z / 256;
+    let x0 = (x % 256) as u8;
+    let x1 = (y % 256) as u8;
+    let x2 = (z % 256) as u8;
+    let x3 = (u % 256) as u8;
+    [
+        66,
+        76,
+        75,
+        49,
+        b.n,
+        b.q,
+        b.w,
+        b.f,
+        b.d,
+        b.c,
+        b.origin,
+        0,
+        x0,
+        x1,
+        x2,
+        x3,
+        0,
+        0,
+        0,
+        0,
+        0,
+        0,
+        0,
+        0,
+        0,
+        0,
+        0,
+        0,
+    ]
+}
+
+// The first entry that breaks its rule, or 60.
+fn block_entry_fault(b: Block) -> usize
+    ensures { λ r. ⌜ r ≡ least 0 60 (broken (encoded b)) ⌝ }
+{
+    let n = b.n;
+    for i in 0..60 {
+        let e = b.entries[i];
+        if !entry_ok(n, i, e) {
+            return i;
+        }
+    }
+    60
+}
+
+// Tests a block value, as the writer does and every other operation that takes one.
+pub fn block_answer(b: Block) -> Answer
+    ensures { λ r. ⌜ meaning r ≡ blockVerdict b ⌝ }
+{
+    let head = head_bytes(b);
+    let h = header_fault(&head);
+    if h < 28 {
+        return Answer::Refused(Reason::Header(h));
+    }
+    let i = block_entry_fault(b);
+    if i < 60 {
+        return Answer::Refused(Reason::Rule(i));
+    }
+    Answer::Accepted
+}
+
+fn put_head(b: Block, out: &mut [u8])
+    requires { ⌜ length (now out) ≡ 512 ⌝ }
+    ensures { λ _. ⌜ now (out .exit) ≡ headBytes b ++ drop 28 (now (out .entry)) ⌝ }
+{
+    let head = head_bytes(b);
+    for k in 0..28 {
+        out[k] = head[k];
+    }
+}
+
+fn put_entry(e: Entry, at: usize, out: &mut [u8])
+    requires { ⌜ at + 8 ≤ length (now out) ⌝ }
+    ensures { λ _. ⌜ now (out .exit) ≡ put (now (out .entry)) at (entryBytes e) ⌝ }
+{
+    out[at] = e.kind;
+    out[at + 1] = e.lo;
+    out[at + 2] = e.hi;
+    out[at + 3] = e.writes;
+    out[at + 4] = e.reads1;
+    out[at + 5] = e.reads2;
+    out[at + 6] = 0;
+    out[at + 7] = 0;
+}
+
+fn put_entries(b: Block, out: &mut [u8])
+    requires { ⌜ length (now out) ≡ 512 ⌝ }
+    ensures { λ _. ⌜ now (out .exit) ≡ put (now (out .entry)) 28 (entriesBytes b) ⌝ }
+{
+    for i in 0..60 {
+        let e = b.entries[i];
+        put_entry(e, 28 + 8 * i, out);
+    }
+}
+
+fn put_block(b: Block, out: &mut [u8])
+    requires { ⌜ length (now out) ≡ 512 ⌝ }
+    ensures { λ _. ⌜ now (out .exit) ≡ encoded b ⌝ }
+{
+    put_head(b, out);
+    put_entries(b, out);
+    seal(out);
+}
+
+// Writes the record of a block to an output of 512 bytes.
+pub fn write(b: Block, out: &mut [u8]) -> Answer
+    ensures { λ r. ⌜ Writes b (now (out .entry)) r (now (out .exit)) ⌝ }
+{
+    let answer = block_answer(b);
+    match answer {
+        Answer::Refused(_) => answer,
+        Answer::Accepted => {
+            if out.len() != 512 {
+                return Answer::Refused(Reason::Output);
+            }
+            put_block(b, out);
+            Answer::Accepted
+        }
+    }
+}

@@ -1,0 +1,5 @@
+pub mod Tests
+pub mod Tables
+pub mod Least
+pub mod Places
+pub mod Little
