@@ -1,10 +1,13 @@
 // The block record: its value, its refusals, its check, its reader and its writer.
 mod reader;
+mod reasons;
 mod rules;
 mod sums;
 mod writer;
 
 pub use reader::read;
+pub use reasons::number_of;
+pub use reasons::place_of;
 pub use sums::check_of;
 pub use sums::four_at;
 pub use sums::seal;

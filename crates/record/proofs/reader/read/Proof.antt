@@ -1,5 +1,5 @@
 -- `record::reader::read` meets its contract: each `return` is the first test that failed. Assumes nothing.
-use mathlib.Core.Path.{refl}
+use mathlib.Core.Path.{_≡_, refl}
 use Rattle.record.specs.declared.Reason.the-variants.{Length, Check, Letters, Header, Rule}
 use Rattle.record.proofs.Verdicts.{read-length, read-check, read-letters, read-header, read-entry, read-fine}
 use Rattle.record.proofs.Answers.{read-refused, read-accepted}
@@ -13,7 +13,8 @@ returns c = read-refused _ _ Length (read-length _ (c .before .if1 .taken)) (c .
 returns-2 : tie.Need-returns-2
 returns-2 c =
     let s = c .before .before .before .before .before .before .before .args .s .now in
-    read-refused s _ Check (read-check s (search needs) (λ e. c .before .if2 .taken (cc))) (c .refused2 .ensures)
+    let differ : c .before .before .before .before .check-of .result ≡ c .before .before .before .four-at .result → ⊥ = search needs in
+    read-refused s _ Check (read-check s (search needs) (λ e. differ (cc))) (c .refused2 .ensures)
 
 returns-3 : tie.Need-returns-3
 returns-3 c =
