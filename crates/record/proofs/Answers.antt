@@ -6,7 +6,7 @@ use Prim.Native.Nat.{ℕ, zero, suc, _-_}
 use native.Mathlib.Omega.{arith}
 use lib.Dec.{eqb}
 use borrow.Author.Tests.{ne-eqb}
-use Rattle.record.specs.Refusals.{numberOf, placeOf, meaning, readVerdict, readBlock}
+use Rattle.record.specs.Refusals.{numberOf, placeOf, meaning, readVerdict, readBlock, blockVerdict}
 use Rattle.record.specs.Layout.{noBlock, decoded}
 use Rattle.record.specs.Promises.{Reads, Writes}
 use Rattle.record.specs.declared.Answer.{Answer}
@@ -72,6 +72,10 @@ pub read-one : (s : List ℕ) (x y : Reading) → Reads s x → Reads s y → x 
 read-one s x y p q =
     let o = outcome-one (x .answer) (y .answer) (x .block) (y .block) (p .answer) (p .block) (q .answer) (q .block) in
     ap (λ (a : Answer). reading a (x .block)) (o .0) ∙ ap (λ (b : Block). reading (y .answer) b) (o .1)
+
+-- testing a block value has one outcome
+pub block-one : (b : Block) (x y : Answer) → meaning x ≡ blockVerdict b → meaning y ≡ blockVerdict b → x ≡ y
+block-one b x y p q = meaning-one x y (p ∙ sym q)
 
 -- writing has one outcome
 pub write-one : (b : Block) (o : List ℕ) (x y : Answer) (p q : List ℕ) → Writes b o x p → Writes b o y q → (x ≡ y) × (p ≡ q)

@@ -1,14 +1,13 @@
 -- The definitions computed at block A, which is written out.
 use mathlib.Core.Path.{_≡_, refl}
-use mathlib.Core.List.{List, [], _∷_, _++_}
-use Prim.Native.Nat.{ℕ}
-use lib.ListN.{length, replicate}
-use Rattle.seqs.specs.Lists.{tab, tabFrom, least, leastFrom, joined}
+use mathlib.Core.List.{_∷_}
+use lib.ListN.{replicate}
+use Rattle.seqs.specs.Lists.{least, leastFrom, joined}
 use Rattle.seqs.specs.Bytes.{little, bytes}
 use Rattle.record.specs.Check.{checkOf, sumA, sumB}
 use Rattle.record.specs.Rules.{lows, highs, outside, register, kind, used, unused, rule, broken}
-use Rattle.record.specs.Layout.{noEntry, noBlock, entryAt, decoded, headBytes, entryBytes, entriesBytes, body, encoded}
-use Rattle.record.specs.Refusals.{verdict, lengthTest, checkTest, lettersTest, headerTest, entryTest, readTests, blockTests, readVerdict, blockVerdict, readBlock}
+use Rattle.record.specs.Layout.{noEntry, headBytes, entryBytes, entriesBytes, body, encoded}
+use Rattle.record.specs.Refusals.{verdict, lengthTest, checkTest, lettersTest, headerTest, entryTest, readTests, blockTests, readVerdict, blockVerdict}
 use Rattle.record.specs.declared.Block.{Block}
 
 -- one integer instruction [1,1], Q 4, W 8, widths 1

@@ -1,19 +1,19 @@
 -- Reading and writing undo each other. Assumes nothing.
 use mathlib.Core.Path.{_≡_, refl, sym, ap, _∙_}
-use mathlib.Core.Bool.{Bool, true, false, not, _&&_}
-use mathlib.Core.List.{List, [], _∷_, _++_}
-use Prim.Native.Nat.{ℕ, suc, _+_, _-_, _*_, _/_, _%_, _≤_, _<_}
-use native.Mathlib.Nat.{add-zero, zero-add}
+use mathlib.Core.Bool.{true, false}
+use mathlib.Core.List.{List}
+use Prim.Native.Nat.{ℕ, _+_, _-_, _/_, _%_, _≤_, _<_}
+use native.Mathlib.Nat.{add-zero}
 use native.Mathlib.Omega.{arith}
 use lib.ListN.{length, getD}
-use lib.Seq.{ext-getD, getD-append-add}
-use lib.Dec.{ltb, eqb}
-use borrow.Author.Tests.{ltb-true, ltb-false, eqb-true, not-false}
-use Rattle.seqs.specs.Lists.{tab, least}
+use lib.Seq.{ext-getD}
+use lib.Dec.{ltb}
+use borrow.Author.Tests.{ltb-true, ltb-false, not-false}
+use Rattle.seqs.specs.Lists.{least}
 use Rattle.seqs.specs.Bytes.{little, bytes}
-use Rattle.seqs.proofs.Tests.{by-test, or-left, or-right, and-left, and-right, Each, end, _▹_, each}
+use Rattle.seqs.proofs.Tests.{by-test, or-left, or-right, end, _▹_, each}
 use Rattle.seqs.proofs.Tables.{is-tab, getD-tab}
-use Rattle.seqs.proofs.Least.{least-below, least-ext, least-back, least-past}
+use Rattle.seqs.proofs.Least.{least-below, least-ext}
 use Rattle.seqs.proofs.Little.{little-ext, little-bytes, bytes-little}
 use Rattle.record.specs.Check.{checkOf}
 use Rattle.record.specs.Rules.{lows, highs, outside, at, entryByte, rule, broken}
@@ -23,11 +23,10 @@ use Rattle.record.specs.Promises.{Reads, Writes, Bytes, Whole}
 use Rattle.record.specs.declared.Answer.{Answer}
 use Rattle.record.specs.declared.Answer.the-variants.{Accepted}
 use Rattle.record.specs.declared.Block.{Block}
-use Rattle.record.specs.declared.Entry.{Entry}
 use Rattle.record.specs.declared.Reading.{Reading}
 use Rattle.record.proofs.Checks.{check-ext}
 use Rattle.record.proofs.Entries.{last-two}
-use Rattle.record.proofs.Encoded.{length-body, length-encoded, head-byte, entry-byte, body-byte, check-same, check-byte, check-stored, outside-head}
+use Rattle.record.proofs.Encoded.{length-encoded, head-byte, entry-byte, check-same, check-byte, check-stored, outside-head}
 use Rattle.record.proofs.Verdicts.{Fine, fine, read-fine}
 use Rattle.record.proofs.Writes.{head-walk, block-none, block-fine, write-fine, write-done}
 use Rattle.record.proofs.Answers.{meaning-one, write-one}

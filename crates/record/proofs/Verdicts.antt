@@ -5,9 +5,9 @@ use mathlib.Core.List.{List, [], _∷_, _++_}
 use Prim.Native.Nat.{ℕ, suc, _≤_, _<_}
 use native.Mathlib.Omega.{arith}
 use lib.ListN.{length}
-use lib.Dec.{eqb, ltb}
+use lib.Dec.{ltb}
 use borrow.Author.Tests.{lt-ltb, le-ltb, eq-eqb, ne-eqb, ltb-true, ltb-false, eqb-true, not-false}
-use Rattle.seqs.specs.Lists.{pick, least}
+use Rattle.seqs.specs.Lists.{least}
 use Rattle.seqs.specs.Bytes.{little}
 use Rattle.seqs.proofs.Tests.{by-test, and-left, and-right}
 use Rattle.seqs.proofs.Least.{least-front, least-front-none, least-back}

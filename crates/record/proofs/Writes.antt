@@ -1,6 +1,6 @@
 -- The verdict of a block value and of a write, by the first test that fails; and the output piece by piece. Assumes nothing.
 use mathlib.Core.Path.{_≡_, refl, sym, ap, _∙_}
-use mathlib.Core.Bool.{Bool, true, false, not}
+use mathlib.Core.Bool.{false, not}
 use mathlib.Core.List.{List, [], _∷_, _++_, append-nil, append-assoc}
 use Prim.Native.Nat.{ℕ, suc, _+_, _*_, _≤_, _<_}
 use native.Mathlib.Numerals.{add-one}
@@ -9,16 +9,16 @@ use lib.ListN.{length, getD, take, drop, take-append-drop, length-append, drop-o
 use lib.Seq.{length-take-le}
 use lib.Dec.{eqb, ltb}
 use borrow.Author.Tests.{eq-eqb, ne-eqb, eqb-true, ltb-true, ltb-false, not-false}
-use Rattle.seqs.specs.Lists.{pick, least, put, joined}
+use Rattle.seqs.specs.Lists.{least, put, joined}
 use Rattle.seqs.specs.Bytes.{bytes}
 use Rattle.seqs.proofs.Least.{least-from, least-past, least-back, least-ext}
 use Rattle.seqs.proofs.Places.{put-next, length-joined}
 use Rattle.seqs.proofs.Little.{length-bytes}
-use Rattle.seqs.proofs.Tests.{by-test, Each, end, _▹_, each}
+use Rattle.seqs.proofs.Tests.{by-test, end, _▹_, each}
 use Rattle.record.specs.Check.{checkOf}
 use Rattle.record.specs.Rules.{lows, highs, outside, broken}
 use Rattle.record.specs.Layout.{noEntry, headBytes, entryBytes, entriesBytes, body, encoded}
-use Rattle.record.specs.Refusals.{Test, numberOf, placeOf, meaning, verdict, headerTest, entryTest, outputTest, blockTests, writeTests, blockVerdict, writeVerdict, written}
+use Rattle.record.specs.Refusals.{Test, numberOf, meaning, verdict, headerTest, entryTest, outputTest, blockTests, writeTests, blockVerdict, writeVerdict, written}
 use Rattle.record.specs.Promises.{Writes}
 use Rattle.record.specs.declared.Answer.{Answer}
 use Rattle.record.specs.declared.Answer.the-variants.{Accepted, Refused}

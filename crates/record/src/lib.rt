@@ -8,9 +8,6 @@ mod writer;
 pub use reader::read;
 pub use reasons::number_of;
 pub use reasons::place_of;
-pub use sums::check_of;
-pub use sums::four_at;
-pub use sums::seal;
 pub use writer::block_answer;
 pub use writer::write;
 

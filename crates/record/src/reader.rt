@@ -2,9 +2,9 @@
 ghost use mathlib.Core.Path.{_≡_};
 ghost use mathlib.Core.Bool.{not};
 ghost use Prim.Native.Nat.{_<_};
-ghost use lib.ListN.{length, getD};
+ghost use lib.ListN.{length};
 ghost use Rattle.seqs.specs.Lists.{tab, least};
-ghost use Rattle.record.specs.Rules.{entryByte, rule, broken};
+ghost use Rattle.record.specs.Rules.{broken};
 ghost use Rattle.record.specs.Layout.{entryAt, decoded, noEntry, noBlock};
 ghost use Rattle.record.specs.Promises.{Reads};
 use crate::Answer;

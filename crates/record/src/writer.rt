@@ -73,12 +73,12 @@ fn block_entry_fault(b: Block) -> usize
     60
 }
 
-// Tests a block value, as the writer does and every other operation that takes one.
-pub fn block_answer(b: Block) -> Answer
+// The tests of a block value whose header bytes are known.
+fn tested(b: Block, head: &[u8]) -> Answer
+    requires { ⌜ now head ≡ headBytes b ⌝ }
     ensures { λ r. ⌜ meaning r ≡ blockVerdict b ⌝ }
 {
-    let head = head_bytes(b);
-    let h = header_fault(&head);
+    let h = header_fault(head);
     if h < 28 {
         return Answer::Refused(Reason::Header(h));
     }
@@ -89,11 +89,18 @@ pub fn block_answer(b: Block) -> Answer
     Answer::Accepted
 }
 
-fn put_head(b: Block, out: &mut [u8])
-    requires { ⌜ length (now out) ≡ 512 ⌝ }
-    ensures { λ _. ⌜ now (out .exit) ≡ headBytes b ++ drop 28 (now (out .entry)) ⌝ }
+// Tests a block value, as the writer does and every other operation that takes one.
+pub fn block_answer(b: Block) -> Answer
+    ensures { λ r. ⌜ meaning r ≡ blockVerdict b ⌝ }
 {
     let head = head_bytes(b);
+    tested(b, &head)
+}
+
+fn put_head(head: &[u8], out: &mut [u8])
+    requires { ⌜ (length (now head) ≡ 28) × (length (now out) ≡ 512) ⌝ }
+    ensures { λ _. ⌜ now (out .exit) ≡ now (head .entry) ++ drop 28 (now (out .entry)) ⌝ }
+{
     for k in 0..28 {
         out[k] = head[k];
     }
@@ -123,11 +130,11 @@ fn put_entries(b: Block, out: &mut [u8])
     }
 }
 
-fn put_block(b: Block, out: &mut [u8])
-    requires { ⌜ length (now out) ≡ 512 ⌝ }
+fn put_block(b: Block, head: &[u8], out: &mut [u8])
+    requires { ⌜ (now head ≡ headBytes b) × (length (now out) ≡ 512) ⌝ }
     ensures { λ _. ⌜ now (out .exit) ≡ encoded b ⌝ }
 {
-    put_head(b, out);
+    put_head(head, out);
     put_entries(b, out);
     seal(out);
 }
@@ -136,14 +143,15 @@ fn put_block(b: Block, out: &mut [u8])
 pub fn write(b: Block, out: &mut [u8]) -> Answer
     ensures { λ r. ⌜ Writes b (now (out .entry)) r (now (out .exit)) ⌝ }
 {
-    let answer = block_answer(b);
+    let head = head_bytes(b);
+    let answer = tested(b, &head);
     match answer {
         Answer::Refused(_) => answer,
         Answer::Accepted => {
             if out.len() != 512 {
                 return Answer::Refused(Reason::Output);
             }
-            put_block(b, out);
+            put_block(b, &head, out);
             Answer::Accepted
         }
     }

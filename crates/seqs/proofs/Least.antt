@@ -5,7 +5,7 @@ use Prim.Native.Nat.{ℕ, zero, suc, _+_, _-_, _≤_, _<_}
 use native.Mathlib.Omega.{arith}
 use lib.Dec.{ltb}
 use borrow.Author.Tests.{ltb-true, ltb-false}
-use Rattle.seqs.specs.Lists.{pick, leastFrom, least}
+use Rattle.seqs.specs.Lists.{leastFrom, least}
 use Rattle.seqs.proofs.Tests.{by-test}
 
 module _ (p : ℕ → Bool) where

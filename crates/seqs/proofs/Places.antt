@@ -1,6 +1,6 @@
 -- Pieces of one width joined, by index; and a buffer filled in order, piece by piece. Assumes nothing.
-use mathlib.Core.Path.{_≡_, refl, sym, ap, _∙_}
-use mathlib.Core.List.{List, [], _∷_, _++_}
+use mathlib.Core.Path.{_≡_, refl, sym, _∙_}
+use mathlib.Core.List.{List, _++_}
 use Prim.Native.Nat.{ℕ, zero, suc, _+_, _*_, _≤_, _<_}
 use native.Mathlib.Nat.{mul-zero, mul-suc, mul-le-mul-left}
 use native.Mathlib.Numerals.{add-one}
@@ -41,9 +41,6 @@ put-next xs ys o i e =
     rw (a, b) refl
 
 -- a buffer whose first k elements are copied from xs, and one more
-pub copy-none : {A : Type 0} (xs o : List A) → o ≡ take 0 xs ++ drop 0 o
-copy-none xs o = refl
-
 pub copy-more : {A : Type 0} (xs o : List A) (k : ℕ) (d : A) → k < length xs → k < length o → set (take k xs ++ drop k o) k (getD xs k d) ≡ take (k + 1) xs ++ drop (k + 1) o
 copy-more xs o k d h g =
     rw (

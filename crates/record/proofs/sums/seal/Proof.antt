@@ -1,5 +1,4 @@
 -- `record::sums::seal` meets its contract: four stores in a row. Assumes nothing.
-use mathlib.Core.Path.{_≡_, refl}
 use lib.Seq.{sets-eq}
 use Rattle.seqs.specs.Bytes.{bytes}
 use borrow.Author.Needs.{needs}

@@ -2,7 +2,6 @@
 use mathlib.Core.Path.{_≡_, _∙_}
 use Prim.Native.Nat.{_≤_, _-_}
 use lib.ListN.{length}
-use Rattle.record.specs.Layout.{entriesBytes}
 use Rattle.record.proofs.Writes.{entriesIn, entries-none, entries-more, entries-all}
 use borrow.Author.Needs.{needs}
 use Rattle.record.proofs.writer.put_entries.Statement.{statement}

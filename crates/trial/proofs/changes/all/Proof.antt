@@ -1,5 +1,5 @@
 -- `trial::changes::all` is safe and ends. Assumes nothing.
-use Prim.Native.Nat.{_≤_, _<_, _-_}
+use Prim.Native.Nat.{_≤_, _-_}
 use borrow.Author.Needs.{needs}
 use Rattle.trial.proofs.changes.all.Statement.{statement}
 use Rattle.trial.proofs.changes.all.Tie as tie

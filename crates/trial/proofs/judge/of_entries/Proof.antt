@@ -1,5 +1,5 @@
 -- `trial::judge::of_entries` is safe and ends. Assumes nothing.
-use Prim.Native.Nat.{_≤_, _<_, _-_}
+use Prim.Native.Nat.{_≤_, _-_}
 use borrow.Author.Needs.{needs}
 use Rattle.trial.proofs.judge.of_entries.Statement.{statement}
 use Rattle.trial.proofs.judge.of_entries.Tie as tie

@@ -1,5 +1,5 @@
 -- `trial::judge::record_of` is safe and ends. Assumes nothing.
-use Prim.Native.Nat.{_≤_, _<_, _-_}
+use Prim.Native.Nat.{_≤_, _-_}
 use borrow.Author.Needs.{needs}
 use Rattle.trial.proofs.judge.record_of.Statement.{statement}
 use Rattle.trial.proofs.judge.record_of.Tie as tie

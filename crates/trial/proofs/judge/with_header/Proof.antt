@@ -1,5 +1,5 @@
 -- `trial::judge::with_header` is safe and ends. Assumes nothing.
-use Prim.Native.Nat.{_≤_, _<_, _-_}
+use Prim.Native.Nat.{_≤_, _-_}
 use borrow.Author.Needs.{needs}
 use Rattle.trial.proofs.judge.with_header.Statement.{statement}
 use Rattle.trial.proofs.judge.with_header.Tie as tie

@@ -1,5 +1,5 @@
 -- `trial::trips::bad` is safe and ends. Assumes nothing.
-use Prim.Native.Nat.{_≤_, _<_, _-_}
+use Prim.Native.Nat.{_≤_, _-_}
 use borrow.Author.Needs.{needs}
 use Rattle.trial.proofs.trips.bad.Statement.{statement}
 use Rattle.trial.proofs.trips.bad.Tie as tie

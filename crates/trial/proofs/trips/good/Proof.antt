@@ -1,5 +1,5 @@
 -- `trial::trips::good` is safe and ends. Assumes nothing.
-use Prim.Native.Nat.{_≤_, _<_, _-_}
+use Prim.Native.Nat.{_≤_, _-_}
 use borrow.Author.Needs.{needs}
 use Rattle.trial.proofs.trips.good.Statement.{statement}
 use Rattle.trial.proofs.trips.good.Tie as tie

@@ -1,5 +1,5 @@
 -- `trial::trips::same_entries` is safe and ends. Assumes nothing.
-use Prim.Native.Nat.{_≤_, _<_, _-_}
+use Prim.Native.Nat.{_≤_, _-_}
 use borrow.Author.Needs.{needs}
 use Rattle.trial.proofs.trips.same_entries.Statement.{statement}
 use Rattle.trial.proofs.trips.same_entries.Tie as tie

@@ -1,0 +1,35 @@
+// The bench's operations for a program in C or Rust: numbers and byte slices alone.
+ghost use mathlib.Core.Path.{_≡_};
+ghost use lib.ListN.{getD};
+ghost use Rattle.record.specs.Layout.{noEntry};
+ghost use Rattle.record.specs.Refusals.{meaning, readBlock, writeVerdict, written};
+use record::Answer;
+
+fn number(a: Answer) -> u8
+    ensures { λ r. ⌜ r ≡ meaning a .0 ⌝ }
+{
+    match a {
+        Answer::Accepted => 0,
+        Answer::Refused(r) => record::number_of(r),
+    }
+}
+
+// Reads a record and gives the highest latency of entry i: 0 at a refusal and from 60 on.
+#[no_mangle]
+pub extern "C" fn bench_read(s: &[u8], i: usize) -> u8
+    ensures { λ r. ⌜ r ≡ getD (readBlock (now (s .entry)) .entries) i noEntry .hi ⌝ }
+{
+    let r = record::read(s);
+    let b = r.block;
+    if i < 60 { b.entries[i].hi } else { 0 }
+}
+
+// Reads a record and writes what it read, with the number of the writer's answer.
+#[no_mangle]
+pub extern "C" fn bench_recode(s: &[u8], out: &mut [u8]) -> u8
+    ensures { λ r. ⌜ (r ≡ writeVerdict (readBlock (now (s .entry))) (now (out .entry)) .0) × (now (out .exit) ≡ written (readBlock (now (s .entry))) (now (out .entry))) ⌝ }
+{
+    let r = record::read(s);
+    let b = r.block;
+    number(record::write(b, out))
+}
