@@ -70,14 +70,16 @@ const HIGH: [u8; 28] = [
     0,
 ];
 
-// The first header byte outside its range, or 28.
+// The first header byte outside its range, or 28. The tables are laid out once, before the walk.
 pub fn header_fault(s: &[u8]) -> usize
     requires { ⌜ 28 ≤ length (now s) ⌝ }
     ensures { λ r. ⌜ r ≡ least 0 28 (outside (now (s .entry))) ⌝ }
 {
+    let low = LOW;
+    let high = HIGH;
     for k in 0..28 {
         let x = s[k];
-        if (x < LOW[k]) | (HIGH[k] < x) {
+        if (x < low[k]) | (high[k] < x) {
             return k;
         }
     }

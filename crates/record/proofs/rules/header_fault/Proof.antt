@@ -11,10 +11,10 @@ use Rattle.record.proofs.rules.header_fault.Statement.{statement}
 use Rattle.record.proofs.rules.header_fault.Tie as tie
 
 abbrev Inv-loop : tie.InvT-loop
-Inv-loop s k₀ k = (k ≤ 28) × ((j : ℕ) → j < k → outside s j ≡ false)
+Inv-loop s low high k₀ k = (k ≤ 28) × ((j : ℕ) → j < k → outside s j ≡ false)
 
 abbrev μ-loop : tie.MeasureT-loop
-μ-loop s k₀ k = 28 - k
+μ-loop s low high k₀ k = 28 - k
 
 loop-holds : tie.Need-loop-holds Inv-loop μ-loop
 loop-holds c = (search needs, below-none _)
