@@ -1,6 +1,6 @@
 -- The record of a block, byte by byte. Assumes nothing.
-use mathlib.Core.Path.{_≡_, refl, ap, _∙_}
-use mathlib.Core.Bool.{not}
+use mathlib.Core.Path.{_≡_, refl, sym, ap, _∙_}
+use mathlib.Core.Bool.{Bool, not}
 use Prim.Native.Nat.{ℕ, _+_, _*_, _<_}
 use native.Mathlib.Nat.{add-assoc, zero-add}
 use native.Mathlib.Omega.{arith}
@@ -72,7 +72,7 @@ module _ (b : Block) where
   outside-head k h = rw (head-byte k h) refl
 
   -- an entry breaks its rule by the block's n and the entry's own bytes
-  pub broken-entry : (i : ℕ) → i < 60 → broken (encoded b) i ≡ not (rule (b .n) i (byteOf (getD (b .entries) i noEntry)))
+  pub broken-value : (i : ℕ) → i < 60 → (ok : Bool) → ok ≡ rule (b .n) i (byteOf (getD (b .entries) i noEntry)) → not ok ≡ broken (encoded b) i
   unfolding broken headBytes
-  broken-entry i h =
-      rw (head-byte 4 (omega arith)) (ap not (rule-ext (b .n) i _ _ (λ k g. entry-byte i k h g)))
+  broken-value i h ok e =
+      rw (head-byte 4 (omega arith), e) (ap not (sym (rule-ext (b .n) i _ _ (λ k g. entry-byte i k h g))))

@@ -9,7 +9,7 @@ use Rattle.record.specs.Rules.{entryByte}
 use Rattle.record.specs.declared.Block.{Block}
 use Rattle.record.specs.declared.Entry.{Entry}
 
--- "Byte 0 unit kind; 1 lowest latency lo; 2 highest latency hi; 3 register written; 4 and 5 registers read": entry i
+-- "From byte 28: 60 entries of 8 bytes. Byte 0 unit kind ..", 1 lowest latency, 2 highest, 3 register written, 4 and 5 registers read: entry i
 unfoldable pub entryAt : List ℕ → ℕ → Entry
 entryAt s i = record {
   kind = entryByte s i 0;
@@ -20,7 +20,7 @@ entryAt s i = record {
   reads2 = entryByte s i 5;
 }
 
--- the block that the bytes of a record say
+-- bytes 4 to 10 and the block number of the header table, and the 60 entries: the block that the bytes of a record say
 unfoldable pub decoded : List ℕ → Block
 decoded s = record {
   n = getD s 4 0;
@@ -34,10 +34,11 @@ decoded s = record {
   entries = tab 60 (entryAt s);
 }
 
--- an entry and a block that are all zero
+-- an entry that is all zero
 abbrev pub noEntry : Entry
 noEntry = record { kind = 0; lo = 0; hi = 0; writes = 0; reads1 = 0; reads2 = 0 }
 
+-- a block that is all zero
 unfoldable pub noBlock : Block
 noBlock = record { n = 0; q = 0; w = 0; f = 0; d = 0; c = 0; origin = 0; number = 0; entries = replicate 60 noEntry }
 

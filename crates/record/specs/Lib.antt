@@ -1,5 +1,5 @@
-pub mod Check
 pub mod Rules
+pub mod Check
 pub mod Layout
 pub mod Refusals
 pub mod Promises

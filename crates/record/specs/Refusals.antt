@@ -15,7 +15,7 @@ use Rattle.record.specs.declared.Reason.the-variants.{Length, Check, Let
 use Rattle.record.specs.declared.Answer.{Answer}
 use Rattle.record.specs.declared.Answer.the-variants.{Accepted, Refused}
 
--- the number of a reason, and the place where it varies
+-- the number that the table gives a reason
 abbrev pub numberOf : Reason → ℕ
 numberOf Length = 1
 numberOf Check = 2
@@ -27,6 +27,7 @@ numberOf Latencies = 7
 numberOf (Latency i) = 8
 numberOf State = 9
 
+-- its place: what the reason carries, and 0 where the table says 0
 abbrev pub placeOf : Reason → ℕ
 placeOf Length = 0
 placeOf Check = 0
@@ -49,6 +50,7 @@ pub record Test : Type 0 where
   pub given : Bool
   pub place : ℕ
 
+-- the line of a number, whether it is given, and its place
 abbrev pub test : ℕ → Bool → ℕ → Test
 test k g p = record { number = k; given = g; place = p }
 
@@ -97,16 +99,19 @@ blockTests b = headerTest (encoded b) ∷ entryTest (encoded b) ∷ []
 unfoldable pub writeTests : Block → List ℕ → List Test
 writeTests b o = blockTests b ++ (outputTest (eqb (length o) 512) ∷ [])
 
--- the verdicts of a byte string, of a block value, and of a write of b to an output that holds o
+-- the verdict of a byte string
 abbrev pub readVerdict : List ℕ → ℕ × ℕ
 readVerdict s = verdict (readTests s)
 
+-- the verdict of a block value
 abbrev pub blockVerdict : Block → ℕ × ℕ
 blockVerdict b = verdict (blockTests b)
 
+-- the verdict of writing b to an output that holds o
 abbrev pub writeVerdict : Block → List ℕ → ℕ × ℕ
 writeVerdict b o = verdict (writeTests b o)
 
+-- no refusal is given
 abbrev pub accepts : ℕ × ℕ → Bool
 accepts v = eqb (v .0) 0
 

@@ -61,7 +61,7 @@ fn entry(x: u64) -> Entry {
 }
 
 // The entry where it is used, else all zero.
-fn used(test: bool, e: Entry) -> Entry {
+pub fn used(test: bool, e: Entry) -> Entry {
     if test { e } else { no_entry() }
 }
 

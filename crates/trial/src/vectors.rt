@@ -2,6 +2,7 @@
 use crate::judge::record_of;
 use crate::judge::sealed_if;
 use crate::made::no_entry;
+use crate::made::used;
 use crate::show::answer;
 use crate::show::number;
 use crate::show::text;
@@ -17,10 +18,6 @@ fn entry(lo: u8, hi: u8, register: u8) -> Entry {
         reads1: 255,
         reads2: 63,
     }
-}
-
-fn used(test: bool, e: Entry) -> Entry {
-    if test { e } else { no_entry() }
 }
 
 // A block of n entries, all of them e.

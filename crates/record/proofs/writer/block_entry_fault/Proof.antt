@@ -1,13 +1,13 @@
 -- `record::writer::block_entry_fault` meets its contract: no entry passed breaks its rule. Assumes nothing.
-use mathlib.Core.Path.{_≡_, sym, ap, _∙_}
-use mathlib.Core.Bool.{true, false, not}
+use mathlib.Core.Path.{_≡_, sym, _∙_}
+use mathlib.Core.Bool.{false}
 use Prim.Native.Nat.{ℕ, _≤_, _<_, _-_}
 use native.Mathlib.Omega.{arith}
 use borrow.Author.Count.{below-none, below-more}
 use Rattle.record.specs.Rules.{broken}
 use Rattle.record.specs.Layout.{encoded}
 use Rattle.seqs.proofs.Least.{least-here, least-none}
-use Rattle.record.proofs.Encoded.{broken-entry}
+use Rattle.record.proofs.Encoded.{broken-value}
 use borrow.Author.Needs.{needs}
 use Rattle.record.proofs.writer.block_entry_fault.Statement.{statement}
 use Rattle.record.proofs.writer.block_entry_fault.Tie as tie
@@ -25,15 +25,15 @@ returns : tie.Need-returns Inv-loop μ-loop
 returns c =
     let t = c .before .before .before .before .loop in
     let b = c .before .before .before .before .before .args .t1 in
-    let e : broken (encoded b) (t .i) ≡ true = broken-entry b (t .i) (search needs) ∙ ap not (sym (c .before .entry-ok .ensures)) ∙ c .if1 .taken in
-    sym (least-here 0 60 (broken (encoded b)) (t .i) (search needs) (search needs) (λ j _ h. t .inv .1 j h) e)
+    let e = broken-value b (t .i) (search needs) _ (c .before .entry-ok .ensures) in
+    sym (least-here 0 60 (broken (encoded b)) (t .i) (search needs) (search needs) (λ j _ h. t .inv .1 j h) (sym e ∙ c .if1 .taken))
 
 loop-again : tie.Need-loop-again Inv-loop μ-loop
 loop-again c =
     let t = c .before .before .before .before .loop in
     let b = c .before .before .before .before .before .args .t1 in
-    let e : broken (encoded b) (t .i) ≡ false = broken-entry b (t .i) (search needs) ∙ ap not (sym (c .before .entry-ok .ensures)) ∙ c .if1 .left in
-    (search needs, below-more _ (t .i) (t .inv .1) e)
+    let e = broken-value b (t .i) (search needs) _ (c .before .entry-ok .ensures) in
+    (search needs, below-more _ (t .i) (t .inv .1) (sym e ∙ c .if1 .left))
 
 returns-2 : tie.Need-returns-2 Inv-loop μ-loop
 returns-2 c = sym (least-none 0 60 _ (search needs) (λ j _ h. c .before .loop .inv .1 j (omega arith)))
