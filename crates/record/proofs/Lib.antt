@@ -4,5 +4,6 @@ pub mod Verdicts
 pub mod Encoded
 pub mod Answers
 pub mod Writes
+pub mod Ranges
 pub mod Trips
 pub mod Examples

@@ -3,3 +3,5 @@ pub mod Tables
 pub mod Least
 pub mod Places
 pub mod Little
+pub mod Members
+pub mod Turns

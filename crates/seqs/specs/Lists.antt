@@ -1,8 +1,11 @@
 -- Lists by index: a table, pieces joined, a part put in place, and the lowest index of a fault.
 use Prim.Native.Nat.{ℕ, zero, suc, _+_, _-_}
+use mathlib.Core.Path.{_≡_}
+use mathlib.Core.Logic.{_⊎_}
 use mathlib.Core.Bool.{Bool, true, false}
 use mathlib.Core.List.{List, [], _∷_, _++_}
 use lib.ListN.{length, take, drop}
+use lib.Dec.{ltb}
 
 -- the first where the test holds, else the second
 abbrev pub pick : {A : Type 0} → Bool → A → A → A
@@ -35,3 +38,26 @@ leastFrom p i (suc n) = pick (p i) i (leastFrom p (suc i) n)
 -- the least k from a on and below b at which p holds; where there is none, b
 unfoldable pub least : ℕ → ℕ → (ℕ → Bool) → ℕ
 least a b p = leastFrom p a (b - a)
+
+-- x is one of a list's
+abbrev pub In : {A : Type 0} → A → List A → Type 0
+In x [] = ⊥
+In x (y ∷ ys) = (x ≡ y) ⊎ In x ys
+
+-- p holds at some number from a on and below b
+unfoldable pub exists : ℕ → ℕ → (ℕ → Bool) → Bool
+exists a b p = ltb (least a b p) b
+
+-- the numbers i, i + 1, .. (n of them) at which p holds
+unfoldable pub thoseFrom : (ℕ → Bool) → ℕ → ℕ → List ℕ
+thoseFrom p i zero = []
+thoseFrom p i (suc n) = let rest = thoseFrom p (suc i) n in pick (p i) (i ∷ rest) rest
+
+-- the numbers from a on and below b at which p holds
+unfoldable pub those : ℕ → ℕ → (ℕ → Bool) → List ℕ
+those a b p = thoseFrom p a (b - a)
+
+-- k elements in order, each worked out from those before it and its own number
+unfoldable pub inOrder : {A : Type 0} → (List A → ℕ → A) → ℕ → List A
+inOrder rule zero = []
+inOrder rule (suc k) = let before = inOrder rule k in before ++ (rule before k ∷ [])

@@ -1,0 +1,286 @@
+-- A path leads from EX(i) to EX(j) exactly if j stands W or more after i, or a chain of registers leads there. So contenders
+-- stand less than W apart. Assumes nothing.
+--
+-- Why: from EX(i) a path goes to WB(i) and CM(i). From CM(k), k not below i, it comes to ID(k + W) and the ID and IF after
+-- that, so to no IF or ID of an instruction below i + W. Below i + W an EX is then entered from the WB of a writer alone,
+-- and that WB from its own EX: such a path is a chain of registers. Back, a chain is a path, and from CM(i) the edge to
+-- ID(i + W) and the order edges ID(k) to ID(k + 1) come to every ID from i + W on.
+use Prim.Native.Nat.{ℕ, zero, suc, _+_, _-_, _*_, _/_, _%_, _≤_, _<_}
+use mathlib.Core.Path.{_≡_, refl, sym, ap, _∙_, subst, subst₂}
+use mathlib.Core.Bool.{Bool, true, false, not, _&&_, _||_, and-true}
+use mathlib.Core.List.{List, [], _∷_, _++_}
+use mathlib.Core.Logic.{_⊎_, inl, inr}
+use native.Mathlib.Omega.{arith}
+use lib.ListN.{getD}
+use lib.Dec.{leb, eqb}
+use borrow.Author.Tests.{eqb-true, eq-eqb, ne-eqb, le-leb, leb-true, leb-false}
+use Rattle.seqs.specs.Lists.{In, tab, inOrder}
+use Rattle.seqs.specs.Sums.{any}
+use Rattle.seqs.proofs.Tests.{by-test, or-cases, or-first, or-second, same-test}
+use Rattle.seqs.proofs.Members.{in-split, in-left, in-right, Every, every, any-find, any-in, any-ext}
+use Rattle.seqs.proofs.Tables.{length-tab, getD-tab, is-tab}
+use Rattle.seqs.proofs.Turns.{inOrder-keeps}
+use Rattle.record.specs.declared.Block.{Block}
+use Rattle.record.proofs.Ranges.{Ranges}
+use Rattle.model.specs.Nodes.{IF, ID, EX, WB, CM, node, stage, instruction, entry, Edges, edges, finishEdges, orderEdges, sources, finishInto, orderInto}
+use Rattle.model.specs.Paths.{edgesInto, Path, Pairs, has, paths, contend, contending}
+use Rattle.model.specs.Paths.Path.{edge, on}
+use Rattle.model.proofs.Predecessors.{Leads, into-leads, Sourced, finish-cases, finish-on, source-on, edge-on, sources-before}
+use Rattle.model.proofs.Reached.{path-up, paths-path, path-paths, contending-at, contending-contends}
+
+-- a chain of registers: j reads what i was the last to write, or what one was to which a chain leads from i
+pub data Chain (b : Block) : ℕ → ℕ → Type 0 where
+  reads : {i j : ℕ} → In i (sources b j) → Chain b i j
+  then-reads : {i a j : ℕ} → Chain b i a → In a (sources b j) → Chain b i j
+
+pub chain-up : (b : Block) (i j : ℕ) → Chain b i j → i < j
+chain-up b i j (reads h) = sources-before b j i h
+chain-up b i j (then-reads {a = a} c h) = omega (arith, chain-up b i a c, sources-before b j a h)
+
+-- ---- what can be said of stage g of instruction a at the end of a path from EX(i)
+abbrev Near : Block → ℕ → ℕ → Type 0
+Near b i a = (i ≡ a) ⊎ (Chain b i a ⊎ (i + b .w ≤ a))
+
+abbrev Said : Block → ℕ → ℕ → ℕ → Type 0
+Said b i zero a = i + b .w ≤ a
+Said b i (suc zero) a = i + b .w ≤ a
+Said b i (suc (suc zero)) a = Near b i a
+Said b i (suc (suc (suc zero))) a = Near b i a
+Said b i (suc (suc (suc (suc g)))) a = i ≤ a
+
+near-up : (b : Block) (i a : ℕ) → Near b i a → i ≤ a
+near-up b i a (inl e) = omega arith
+near-up b i a (inr (inl c)) = omega (arith, chain-up b i a c)
+near-up b i a (inr (inr h)) = omega arith
+
+near-reads : (b : Block) (i a j : ℕ) → Near b i a → In a (sources b j) → Near b i j
+near-reads b i a j (inl e) h = inr (inl (reads (subst (λ (x : ℕ). In x (sources b j)) (sym e) h)))
+near-reads b i a j (inr (inl c)) h = inr (inl (then-reads c h))
+near-reads b i a j (inr (inr k)) h = inr (inr (omega (arith, sources-before b j a h)))
+
+-- an edge by stage carries it on
+abbrev Carries : Block → ℕ → Edges → Type 0
+Carries b i e = (e .from < 5) × ((a : ℕ) → Said b i (e .from) a → Said b i (e .to) (a + e .far))
+
+module _ (b : Block) (i : ℕ) where
+  finish-carries : Every (Carries b i) (finishEdges b)
+  unfolding finishEdges
+  finish-carries = (
+    (omega arith, λ a h. omega arith),
+    (
+      (omega arith, λ a h. inr (inr (omega arith))),
+      (
+        (omega arith, λ a h. plus a h),
+        (
+          (omega arith, λ a h. omega (arith, near-up b i a h)),
+          (
+            (omega arith, λ a h. omega arith),
+            (
+              (omega arith, λ a h. omega arith),
+              (
+                (omega arith, λ a h. omega arith),
+                (
+                  (omega arith, λ a h. omega arith),
+                  ((omega arith, λ a h. omega arith), tt),
+                ),
+              ),
+            ),
+          ),
+        ),
+      ),
+    ),
+  )
+    where
+      plus : (a : ℕ) → Near b i a → Near b i (a + 0)
+      plus a h = let e : a ≡ a + 0 = omega arith in subst (λ (x : ℕ). Near b i x) e h
+
+  order-carries : Every (Carries b i) (orderEdges b)
+  unfolding orderEdges
+  order-carries = (
+    (omega arith, λ a h. omega arith),
+    (
+      (omega arith, λ a h. omega arith),
+      ((omega arith, λ a h. omega arith), tt),
+    ),
+  )
+
+  leads-carries : (es : List Edges) → Every (Carries b i) es → (u v : ℕ) → Leads es u v → Said b i (stage u) (instruction u) → Said b i (stage v) (instruction v)
+  leads-carries es all u v l h =
+      let c = every (Carries b i) es all (l .by) (l .one) in
+      let s : stage u ≡ l .by .from = omega (arith, l .from, c .0) in
+      let a : instruction u ≡ instruction v - l .by .far = omega (arith, l .from, c .0) in
+      let back : instruction v - l .by .far + l .by .far ≡ instruction v = omega (arith, l .far) in
+      subst₂ (λ (g x : ℕ). Said b i g x) (l .to) back (c .1 (instruction v - l .by .far) (subst₂ (λ (g x : ℕ). Said b i g x) s a h))
+
+  source-carries : (u v : ℕ) → Sourced b u v → Said b i (stage u) (instruction u) → Said b i (stage v) (instruction v)
+  source-carries u v s h =
+      let g : stage u ≡ WB = omega (arith, s .from) in
+      let a : instruction u ≡ s .by = omega (arith, s .from) in
+      subst (λ (x : ℕ). Said b i x (instruction v)) (sym (s .ex)) (near-reads b i (s .by) (instruction v) (subst₂ (λ (x y : ℕ). Said b i x y) g a h) (s .one))
+
+  edge-carries : (u v : ℕ) → In u (edgesInto b v) → Said b i (stage u) (instruction u) → Said b i (stage v) (instruction v)
+  unfolding edgesInto orderInto
+  edge-carries u v e h = go (in-split u (finishInto b v) (orderInto b v) e)
+    where
+      by-finish : Leads (finishEdges b) u v ⊎ Sourced b u v → Said b i (stage v) (instruction v)
+      by-finish (inl l) = leads-carries (finishEdges b) finish-carries u v l h
+      by-finish (inr s) = source-carries u v s h
+
+      go : In u (finishInto b v) ⊎ In u (orderInto b v) → Said b i (stage v) (instruction v)
+      go (inl k) = by-finish (finish-cases b u v k)
+      go (inr k) = leads-carries (orderEdges b) order-carries u v (into-leads (orderEdges b) u v k) h
+
+  first : (u : ℕ) → u ≡ node EX i → Said b i (stage u) (instruction u)
+  first u e =
+      let g : EX ≡ u % 5 = omega arith in
+      let a : i ≡ u / 5 = omega arith in
+      subst₂ (λ (x y : ℕ). Said b i x y) g a (inl refl)
+
+  path-carries : (u v : ℕ) → u ≡ node EX i → Path b u v → Said b i (stage v) (instruction v)
+  path-carries u v e (edge h) = edge-carries u v h (first u e)
+  path-carries u v e (on {x = x} p h) = edge-carries x v h (path-carries u x e p)
+
+-- ---- EX(i) REACHES EX(j) EXACTLY IF j IS W OR MORE AFTER i OR A CHAIN OF REGISTERS LEADS THERE
+module _ (b : Block) (i j : ℕ) where
+  pub path-chain : i < j → Path b (node EX i) (node EX j) → Chain b i j ⊎ (i + b .w ≤ j)
+  path-chain l p =
+      let g : (5 * j + 2) % 5 ≡ 2 = omega arith in
+      let a : (5 * j + 2) / 5 ≡ j = omega arith in
+      go (subst₂ (λ (x y : ℕ). Said b i x y) g a (path-carries b i (node EX i) (node EX j) refl p))
+    where
+      go : Near b i j → Chain b i j ⊎ (i + b .w ≤ j)
+      go (inl e) = absurd (omega arith)
+      go (inr x) = x
+
+-- the edges that the way back takes
+module _ (b : Block) where
+  finish-edge : (u v : ℕ) → In u (finishInto b v) → In u (edgesInto b v)
+  unfolding edgesInto
+  finish-edge u v h = in-left u (finishInto b v) (orderInto b v) h
+
+  order-edge : (u v : ℕ) → In u (orderInto b v) → In u (edgesInto b v)
+  unfolding edgesInto
+  order-edge u v h = in-right u (finishInto b v) (orderInto b v) h
+
+  within : (g h i : ℕ) → h < 5 → In (edges g h 0) (finishEdges b) → In (node g i) (edgesInto b (node h i))
+  within g h i l m =
+      let e : i + 0 ≡ i = omega arith in
+      finish-edge (node g i) (node h i) (subst (λ (x : ℕ). In (node g i) (finishInto b (node h x))) e (finish-on b g h 0 i l m))
+
+  ID-EX : (i : ℕ) → In (node ID i) (edgesInto b (node EX i))
+  unfolding finishEdges
+  ID-EX i = within ID EX i (omega arith) (inr (inl refl))
+
+  EX-WB : (i : ℕ) → In (node EX i) (edgesInto b (node WB i))
+  unfolding finishEdges
+  EX-WB i = within EX WB i (omega arith) (inr (inr (inl refl)))
+
+  WB-CM : (i : ℕ) → In (node WB i) (edgesInto b (node CM i))
+  unfolding finishEdges
+  WB-CM i = within WB CM i (omega arith) (inr (inr (inr (inl refl))))
+
+  CM-ID : (i : ℕ) → In (node CM i) (edgesInto b (node ID (i + b .w)))
+  unfolding finishEdges
+  CM-ID i = finish-edge (node CM i) (node ID (i + b .w)) (finish-on b CM ID (b .w) i (omega arith) (inr (inr (inr (inr (inr (inl refl)))))))
+
+  ID-ID : (i : ℕ) → In (node ID i) (edgesInto b (node ID (i + 1)))
+  unfolding orderInto orderEdges
+  ID-ID i = order-edge (node ID i) (node ID (i + 1)) (edge-on (orderEdges b) ID ID 1 i (omega arith) (inr (inl refl)))
+
+  WB-EX : (i j : ℕ) → In i (sources b j) → In (node WB i) (edgesInto b (node EX j))
+  WB-EX i j h = finish-edge (node WB i) (node EX j) (source-on b i j h)
+
+  pub chain-path : (i j : ℕ) → Chain b i j → Path b (node EX i) (node EX j)
+  chain-path i j (reads h) = on (edge (EX-WB i)) (WB-EX i j h)
+  chain-path i j (then-reads {a = a} c h) = on (on (chain-path i a c) (EX-WB a)) (WB-EX a j h)
+
+  to-ID : (k i : ℕ) → Path b (node EX i) (node ID (i + b .w + k))
+  to-ID zero i =
+      let e : i + b .w ≡ i + b .w + 0 = omega arith in
+      subst (λ (x : ℕ). Path b (node EX i) (node ID x)) e (on (on (edge (EX-WB i)) (WB-CM i)) (CM-ID i))
+  to-ID (suc k) i =
+      let e : i + b .w + k + 1 ≡ i + b .w + suc k = omega arith in
+      subst (λ (x : ℕ). Path b (node EX i) (node ID x)) e (on (to-ID k i) (ID-ID (i + b .w + k)))
+
+  pub far-path : (i j : ℕ) → i + b .w ≤ j → Path b (node EX i) (node EX j)
+  far-path i j h =
+      let e : i + b .w + (j - (i + b .w)) ≡ j = omega arith in
+      on (subst (λ (x : ℕ). Path b (node EX i) (node ID x)) e (to-ID (j - (i + b .w)) i)) (ID-EX j)
+
+-- ---- the chains as a table, worked out in order: row j tells from which i a chain leads to j
+unfoldable pub chains : Block → Pairs
+chains b = inOrder (λ before j. tab (b .n) (λ i. any (λ a. eqb a i || has before a i) (sources b j))) (b .n)
+
+module _ (b : Block) where
+  -- a is i, or a chain leads from i to it
+  abbrev from-i : ℕ → ℕ → Bool
+  from-i i a = eqb a i || has (chains b) a i
+
+  rows-look : (s t : Pairs) (j : ℕ) → ((u : ℕ) → u < j → getD s u [] ≡ getD t u [])
+      → tab (b .n) (λ i. any (λ a. eqb a i || has s a i) (sources b j)) ≡ tab (b .n) (λ i. any (λ a. eqb a i || has t a i) (sources b j))
+  rows-look s t j same =
+      is-tab (b .n) _ false _ (length-tab (b .n) _)
+      (λ i l. getD-tab (b .n) _ i false l
+      ∙ any-ext (λ a. eqb a i || has s a i) (λ a. eqb a i || has t a i) (sources b j)
+      (λ a h. ap (λ (r : List Bool). eqb a i || getD r i false) (same a (sources-before b j a h))))
+
+  chains-is : (i j : ℕ) → i < b .n → j < b .n → has (chains b) j i ≡ any (from-i i) (sources b j)
+  unfolding chains
+  chains-is i j hi hj =
+      ap (λ (r : List Bool). getD r i false)
+      (inOrder-keeps (λ before k. tab (b .n) (λ x. any (λ a. eqb a x || has before a x) (sources b k))) [] rows-look (b .n) j hj)
+      ∙ getD-tab (b .n) _ i false hi
+
+  pub chain-chains : (i j : ℕ) → i < b .n → j < b .n → Chain b i j → has (chains b) j i ≡ true
+  chain-chains i j hi hj (reads h) = chains-is i j hi hj ∙ any-in (from-i i) (sources b j) i h (or-first (eqb i i) _ (eq-eqb i i refl))
+  chain-chains i j hi hj (then-reads {a = a} c h) =
+      chains-is i j hi hj ∙ any-in (from-i i) (sources b j) a h (or-second (eqb a i) _ (chain-chains i a hi (omega (arith, sources-before b j a h)) c))
+
+  below : (k i j : ℕ) → j < k → i < b .n → j < b .n → has (chains b) j i ≡ true → Chain b i j
+  below zero i j l hi hj t = absurd (omega arith)
+  below (suc k) i j l hi hj t =
+      let r = any-find (from-i i) (sources b j) (sym (chains-is i j hi hj) ∙ t) in
+      go (r .0) (r .1) (or-cases (eqb (r .0) i) (has (chains b) (r .0) i) (r .2)) (λ a o. below k i a (omega arith) hi (omega arith))
+    where
+      go : (a : ℕ) → In a (sources b j) → (eqb a i ≡ true) ⊎ (has (chains b) a i ≡ true) → ((x : ℕ) → x < j → has (chains b) x i ≡ true → Chain b i x) → Chain b i j
+      go a h (inl e) ih = reads (subst (λ (x : ℕ). In x (sources b j)) (eqb-true a i e) h)
+      go a h (inr e) ih = then-reads (ih a (sources-before b j a h) e) h
+
+  pub chains-chain : (i j : ℕ) → i < b .n → j < b .n → has (chains b) j i ≡ true → Chain b i j
+  chains-chain i j hi hj t = below (suc j) i j (omega arith) hi hj t
+
+-- ---- THE SAME AS ONE TEST, AND WHAT IT SAYS OF CONTENDERS
+module _ (b : Block) (A : Ranges b) (i j : ℕ) (l : i < j) (h : j < b .n) where
+  far-or-chained : Chain b i j ⊎ (i + b .w ≤ j) → (leb (i + b .w) j || has (chains b) j i) ≡ true
+  far-or-chained (inl c) = or-second (leb (i + b .w) j) _ (chain-chains b i j (omega arith) h c)
+  far-or-chained (inr f) = or-first (leb (i + b .w) j) _ (le-leb (i + b .w) j f)
+
+  to-path : (leb (i + b .w) j ≡ true) ⊎ (has (chains b) j i ≡ true) → Path b (node EX i) (node EX j)
+  to-path (inl f) = far-path b i j (leb-true (i + b .w) j f)
+  to-path (inr c) = chain-path b i j (chains-chain b i j (omega arith) h c)
+
+  pub paths-chains : has (paths b) i j ≡ (leb (i + b .w) j || has (chains b) j i)
+  paths-chains =
+      same-test (has (paths b) i j) (leb (i + b .w) j || has (chains b) j i)
+      (λ t. far-or-chained (path-chain b i j l (paths-path b A i j (omega arith) h t)))
+      (λ t. path-paths b A i j (omega arith) h (to-path (or-cases (leb (i + b .w) j) (has (chains b) j i) t)))
+
+  -- CONTENDERS ARE LESS THAN W APART
+  pub contend-near : has (contending b) i j ≡ true → j < i + b .w
+  contend-near t =
+      by-test (leb (i + b .w) j)
+      (λ f. absurd (contending-contends b A i j (omega arith) h t .no-path (far-path b i j (leb-true (i + b .w) j f))))
+      (λ f. leb-false (i + b .w) j f)
+
+  none-back : has (paths b) j i ≡ false
+  none-back =
+      by-test (has (paths b) j i)
+      (λ t. absurd (let o = path-up b A (node EX j) (node EX i) (paths-path b A j i h (omega arith) t) in omega arith))
+      (λ t. t)
+
+  -- the contending pairs, from the chains
+  pub contending-chains : has (contending b) i j ≡ (eqb (entry b i .kind) (entry b j .kind) && not (leb (i + b .w) j || has (chains b) j i))
+  unfolding contend
+  contending-chains =
+      contending-at b A i j (omega arith) h
+      ∙ rw (ne-eqb i j (λ e. omega arith), none-back, paths-chains) (and-true _)

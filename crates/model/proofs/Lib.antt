@@ -1,0 +1,4 @@
+pub mod Predecessors
+pub mod Reached
+pub mod Chains
+pub mod Worked

@@ -1,0 +1,5 @@
+pub mod Nodes
+pub mod Paths
+pub mod Cycles
+pub mod Rounds
+pub mod Blocks
