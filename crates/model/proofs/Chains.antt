@@ -8,7 +8,7 @@
 use Prim.Native.Nat.{ℕ, zero, suc, _+_, _-_, _*_, _/_, _%_, _≤_, _<_}
 use mathlib.Core.Path.{_≡_, refl, sym, ap, _∙_, subst, subst₂}
 use mathlib.Core.Bool.{Bool, true, false, not, _&&_, _||_, and-true}
-use mathlib.Core.List.{List, [], _∷_, _++_}
+use mathlib.Core.List.{List, []}
 use mathlib.Core.Logic.{_⊎_, inl, inr}
 use native.Mathlib.Omega.{arith}
 use lib.ListN.{getD}
@@ -22,7 +22,7 @@ use Rattle.seqs.proofs.Tables.{length-tab, getD-tab, is-tab}
 use Rattle.seqs.proofs.Turns.{inOrder-keeps}
 use Rattle.record.specs.declared.Block.{Block}
 use Rattle.record.proofs.Ranges.{Ranges}
-use Rattle.model.specs.Nodes.{IF, ID, EX, WB, CM, node, stage, instruction, entry, Edges, edges, finishEdges, orderEdges, sources, finishInto, orderInto}
+use Rattle.model.specs.Nodes.{ID, EX, WB, CM, node, stage, instruction, entry, Edges, edges, finishEdges, orderEdges, sources, finishInto, orderInto}
 use Rattle.model.specs.Paths.{edgesInto, Path, Pairs, has, paths, contend, contending}
 use Rattle.model.specs.Paths.Path.{edge, on}
 use Rattle.model.proofs.Predecessors.{Leads, into-leads, Sourced, finish-cases, finish-on, source-on, edge-on, sources-before}

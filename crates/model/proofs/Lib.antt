@@ -1,4 +1,7 @@
+pub mod Worked
+pub mod Examples
 pub mod Predecessors
 pub mod Reached
 pub mod Chains
-pub mod Worked
+pub mod Lines
+pub mod Settled

@@ -1,18 +1,18 @@
 -- The edges of an accepted block: each leads up in node order, and each that leaves an EX is a finish edge. Assumes nothing.
 use Prim.Native.Nat.{ℕ, zero, suc, _+_, _-_, _*_, _/_, _%_, _≤_, _<_}
-use mathlib.Core.Path.{_≡_, refl, sym, ap, _∙_, subst}
+use mathlib.Core.Path.{_≡_, refl, subst}
 use mathlib.Core.Bool.{Bool, true, false, _&&_}
-use mathlib.Core.List.{List, [], _∷_, _++_, map}
+use mathlib.Core.List.{List, [], _∷_, map}
 use mathlib.Core.Logic.{_⊎_, inl, inr}
 use native.Mathlib.Omega.{arith}
 use lib.Dec.{leb, eqb}
 use borrow.Author.Tests.{leb-true, le-leb, eqb-true, eq-eqb}
 use Rattle.seqs.specs.Lists.{In, pick}
-use Rattle.seqs.proofs.Tests.{by-test, and-left, and-right, and-both}
+use Rattle.seqs.proofs.Tests.{and-left, and-right}
 use Rattle.seqs.proofs.Members.{in-split, in-left, in-right, in-map, map-in, Every, every}
 use Rattle.record.specs.declared.Block.{Block}
 use Rattle.record.proofs.Ranges.{Ranges}
-use Rattle.model.specs.Nodes.{IF, ID, EX, WB, CM, node, stage, instruction, isEX, entry, Edges, edges, finishEdges, lastWriter, source, sources, orderEdges, into, finishInto, orderInto}
+use Rattle.model.specs.Nodes.{EX, WB, node, stage, instruction, isEX, entry, Edges, edges, finishEdges, lastWriter, source, sources, orderEdges, into, finishInto, orderInto}
 use Rattle.model.specs.Paths.{edgesInto}
 
 -- an element of a list that a test lets through
@@ -87,13 +87,13 @@ writer-in b r (suc j) i h = go (in-pick i (eqb (entry b j .writes) r) (j ∷ [])
     go (inl (t, inr q)) ih = absurd q
     go (inr (t, q)) ih = let x = ih q in (omega (arith, x .0), x .1)
 
+picked : {A : Type 0} (x : A) (t : Bool) (xs : List A) → In x (pick t [] xs) → In x xs
+picked x true xs h = absurd h
+picked x false xs h = h
+
 source-before : (b : Block) (r j i : ℕ) → In i (source b r j) → i < j
 unfolding source
-source-before b r j i h = go (in-pick i (eqb r 255) [] (lastWriter b r j) h)
-  where
-    go : ((eqb r 255 ≡ true) × In i []) ⊎ ((eqb r 255 ≡ false) × In i (lastWriter b r j)) → i < j
-    go (inl (t, q)) = absurd q
-    go (inr (t, q)) = writer-in b r j i q .0
+source-before b r j i h = writer-in b r _ i (picked i (eqb r 255) _ h) .0
 
 -- what j reads was written before it
 pub sources-before : (b : Block) (j i : ℕ) → In i (sources b j) → i < j

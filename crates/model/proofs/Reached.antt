@@ -1,9 +1,8 @@
 -- What is computed as reached is what a path leads to; so two EX nodes contend exactly if their kinds are equal and there
 -- is no path from one to the other. Assumes nothing.
-use Prim.Native.Nat.{ℕ, zero, suc, _+_, _*_, _≤_, _<_}
+use Prim.Native.Nat.{ℕ, zero, suc, _*_, _<_}
 use mathlib.Core.Path.{_≡_, refl, sym, ap, _∙_, subst}
 use mathlib.Core.Bool.{Bool, true, false, not, _&&_, _||_, false≢true}
-use mathlib.Core.List.{List}
 use mathlib.Core.Logic.{_⊎_, inl, inr}
 use native.Mathlib.Omega.{arith}
 use lib.ListN.{getD}
@@ -77,7 +76,7 @@ module _ (b : Block) (A : Ranges b) (i j : ℕ) (hi : i < b .n) (hj : j < b .n) 
   pub path-paths : Path b (node EX i) (node EX j) → has (paths b) i j ≡ true
   path-paths p = paths-at ∙ path-reached b A (node EX i) (node EX j) (omega arith) p
 
--- two instructions contend, in the paper's words
+-- two instructions contend, in the words of the rule
 pub record Contends (b : Block) (i j : ℕ) : Type 0 where
   pub two : i ≡ j → ⊥
   pub kinds : entry b i .kind ≡ entry b j .kind

@@ -1,10 +1,10 @@
--- The blocks worked by hand, computed: each number is the one that the paper prints. Assumes nothing.
+-- The blocks worked by hand, computed: each number is the one that is printed. Assumes nothing.
 use Prim.Native.Nat.{ℕ, _-_}
 use mathlib.Core.Path.{_≡_, refl}
 use mathlib.Core.List.{List, [], _∷_, _++_}
-use lib.ListN.{getD}
 use Rattle.seqs.specs.Lists.{tab, tabFrom, least, leastFrom, exists, those, thoseFrom, inOrder}
 use Rattle.seqs.specs.Sums.{largest, total, none, any, all}
+use Rattle.seqs.proofs.Members.{Every}
 use Rattle.record.specs.declared.Block.{Block}
 use Rattle.model.specs.Nodes.{EX, CM, node, latency, lowest, highest, chosen, finishEdges, lastWriter, source, sources, orderEdges, into, finishInto, orderInto}
 use Rattle.model.specs.Paths.{edgesInto, reached, pairs, count, paths, contend, contending}
@@ -30,48 +30,44 @@ firstEXOne b = start (roundOne b) (node EX 0)
 unfoldable pub boundOne : Block → ℕ
 boundOne b = finish (highest b) (roundOne b) (node CM (b .n - 1))
 
--- what the table names, block after block, then the two plays of E, then J
-unfoldable pub worked : List (List ℕ)
+-- a result that is worked out, and the one that is printed
+pub record Result : Type 0 where
+  pub found : List ℕ
+  pub printed : List ℕ
+
+abbrev result : List ℕ → List ℕ → Result
+result x y = record { found = x; printed = y }
+
+-- the eleven results marked P, and that of J
+unfoldable pub worked : List Result
 worked =
-    summary blockA
-    ∷ (summary blockB ++ (firstEX blockB ∷ []))
-    ∷ summary blockC
-    ∷ summary blockD
-    ∷ summary blockE
-    ∷ (summary blockF ++ (firstEX blockF ∷ firstEXOne blockF ∷ []))
-    ∷ summary blockG
-    ∷ summary blockH
-    ∷ (summary blockI ++ (boundOne blockI ∷ []))
-    ∷ (playLength blockE (chosen (1 ∷ 4 ∷ 4 ∷ 12 ∷ [])) ∷ [])
-    ∷ (playLength blockE (chosen (4 ∷ 4 ∷ 4 ∷ 12 ∷ [])) ∷ [])
-    ∷ summary blockJ
+    -- A "5, 1, 0, 0"
+    result (summary blockA) (5 ∷ 1 ∷ 0 ∷ 0 ∷ [])
+    -- B "8, 1, 0, 0; EX latest start 2"
+    ∷ result (summary blockB ++ (firstEX blockB ∷ [])) (8 ∷ 1 ∷ 0 ∷ 0 ∷ 2 ∷ [])
+    -- C "13, 1, 1, 0"
+    ∷ result (summary blockC) (13 ∷ 1 ∷ 1 ∷ 0 ∷ [])
+    -- D "13, 1, 0, 0"
+    ∷ result (summary blockD) (13 ∷ 1 ∷ 0 ∷ 0 ∷ [])
+    -- E "27, 1, 1, 0"
+    ∷ result (summary blockE) (27 ∷ 1 ∷ 1 ∷ 0 ∷ [])
+    -- F "10, 2, 2, 2; first EX latest start 2 (4 after round one)"
+    ∷ result (summary blockF ++ (firstEX blockF ∷ firstEXOne blockF ∷ [])) (10 ∷ 2 ∷ 2 ∷ 2 ∷ 2 ∷ 4 ∷ [])
+    -- G "6, 1, 1, 0"
+    ∷ result (summary blockG) (6 ∷ 1 ∷ 1 ∷ 0 ∷ [])
+    -- H "9, 1, 0, 0"
+    ∷ result (summary blockH) (9 ∷ 1 ∷ 0 ∷ 0 ∷ [])
+    -- I "17, 2, 1, 1 (bound 18 after round one)"
+    ∷ result (summary blockI ++ (boundOne blockI ∷ [])) (17 ∷ 2 ∷ 1 ∷ 1 ∷ 18 ∷ [])
+    -- "playing E with first latency 1 ends at 27,"
+    ∷ result (playLength blockE (chosen (1 ∷ 4 ∷ 4 ∷ 12 ∷ [])) ∷ []) (27 ∷ [])
+    -- "and with 4 at 23"
+    ∷ result (playLength blockE (chosen (4 ∷ 4 ∷ 4 ∷ 12 ∷ [])) ∷ []) (23 ∷ [])
+    -- J, as D
+    ∷ result (summary blockJ) (13 ∷ 1 ∷ 0 ∷ 0 ∷ [])
     ∷ []
 
--- the eleven results marked P, and the one of J
-pub worked-by-hand : worked
-    -- A "5, 1, 0, 0"
-    ≡ (5 ∷ 1 ∷ 0 ∷ 0 ∷ [])
-    -- B "8, 1, 0, 0; EX latest start 2"
-    ∷ (8 ∷ 1 ∷ 0 ∷ 0 ∷ 2 ∷ [])
-    -- C "13, 1, 1, 0"
-    ∷ (13 ∷ 1 ∷ 1 ∷ 0 ∷ [])
-    -- D "13, 1, 0, 0"
-    ∷ (13 ∷ 1 ∷ 0 ∷ 0 ∷ [])
-    -- E "27, 1, 1, 0"
-    ∷ (27 ∷ 1 ∷ 1 ∷ 0 ∷ [])
-    -- F "10, 2, 2, 2; first EX latest start 2 (4 after round one)"
-    ∷ (10 ∷ 2 ∷ 2 ∷ 2 ∷ 2 ∷ 4 ∷ [])
-    -- G "6, 1, 1, 0"
-    ∷ (6 ∷ 1 ∷ 1 ∷ 0 ∷ [])
-    -- H "9, 1, 0, 0"
-    ∷ (9 ∷ 1 ∷ 0 ∷ 0 ∷ [])
-    -- I "17, 2, 1, 1 (bound 18 after round one)"
-    ∷ (17 ∷ 2 ∷ 1 ∷ 1 ∷ 18 ∷ [])
-    -- "playing E with first latency 1 ends at 27, and with 4 at 23"
-    ∷ (27 ∷ [])
-    ∷ (23 ∷ [])
-    -- J, as D
-    ∷ (13 ∷ 1 ∷ 0 ∷ 0 ∷ [])
-    ∷ []
+-- EACH IS THE ONE PRINTED
+pub worked-by-hand : Every (λ r. r .found ≡ r .printed) worked
 unfolding worked summary firstEX roundOne firstEXOne boundOne tab tabFrom least leastFrom exists those thoseFrom inOrder largest total none any all latency lowest highest chosen finishEdges lastWriter source sources orderEdges into finishInto orderInto edgesInto reached pairs count paths contend contending started finish ready runs units free begins turns cycle nothing over playOn play playLength earliest R rival B behind latestEX latestStart round apart new roundsFrom pairCount windows roundCount apartCount bound blockA blockB blockC blockD blockE blockF blockG blockH blockI blockJ
-worked-by-hand = refl
+worked-by-hand = (refl, (refl, (refl, (refl, (refl, (refl, (refl, (refl, (refl, (refl, (refl, (refl, tt))))))))))))

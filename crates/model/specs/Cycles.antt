@@ -1,5 +1,5 @@
--- "Cycle rules". A rule stands before the one that uses it; otherwise the order is the paper's.
-use Prim.Native.Nat.{ℕ, zero, suc, _+_, _-_, _*_, max}
+-- "Cycle rules". A rule stands before the one that uses it; otherwise the order is that of the text.
+use Prim.Native.Nat.{ℕ, zero, suc, _+_, _-_, max}
 use mathlib.Core.Bool.{Bool, not, _&&_, _||_}
 use mathlib.Core.List.{List, [], _∷_, map}
 use lib.ListN.{length, getD, set, replicate}
@@ -7,7 +7,7 @@ use lib.Dec.{leb, ltb, eqb}
 use Rattle.seqs.specs.Lists.{pick, exists, those, joined}
 use Rattle.seqs.specs.Sums.{largest, all}
 use Rattle.record.specs.declared.Block.{Block}
-use Rattle.model.specs.Nodes.{EX, CM, node, instruction, isEX, entry, finishInto, orderInto}
+use Rattle.model.specs.Nodes.{EX, CM, nodes, node, instruction, isEX, entry, finishInto, orderInto}
 
 -- "A state holds a cycle number t and, per node, its start or "not started"."
 pub record State : Type 0 where
@@ -36,7 +36,7 @@ unfoldable pub unfit : Block → State → Bool
 unfit b p =
     ltb 30779 (p .t)
     || exists 0 300 (λ v. started (p .starts) v && not (ltb (start (p .starts) v) (p .t)))
-    || exists (5 * b .n) 300 (started (p .starts))
+    || exists (nodes b) 300 (started (p .starts))
 
 -- EX of instruction j "has start ≤ t < start + latency"
 unfoldable pub runs : (ℕ → ℕ) → ℕ → List ℕ → ℕ → Bool
@@ -66,7 +66,7 @@ turns b lat t s (suc k) = let now = turns b lat t s k in pick (begins b lat t no
 
 -- "One cycle of play takes the state and gives back the next", "Then t grows by one."
 unfoldable pub cycle : Block → (ℕ → ℕ) → State → State
-cycle b lat p = record { t = p .t + 1; starts = turns b lat (p .t) (p .starts) (5 * b .n) }
+cycle b lat p = record { t = p .t + 1; starts = turns b lat (p .t) (p .starts) (nodes b) }
 
 -- "from t = 0, nothing started"
 unfoldable pub nothing : State
@@ -74,15 +74,15 @@ nothing = record { t = 0; starts = replicate 300 notStarted }
 
 -- "all have started"
 unfoldable pub over : Block → State → Bool
-over b p = not (exists 0 (5 * b .n) (λ v. not (started (p .starts) v)))
+over b p = not (exists 0 (nodes b) (λ v. not (started (p .starts) v)))
 
 -- the state in which all have started, or after `most` cycles if that is sooner
 unfoldable pub playOn : ℕ → Block → (ℕ → ℕ) → State → State
 playOn zero b lat p = p
 playOn (suc most) b lat p = let rest = playOn most b lat (cycle b lat p) in pick (over b p) p rest
 
--- "A play runs from t = 0, nothing started, until all have started": the starts then, which no cycle after the first
--- 30,780 decides
+-- "A play runs from t = 0, nothing started, until all have started": the starts then. 30,780 cycles are
+-- allowed, 513 for each of 60 instructions
 unfoldable pub play : Block → (ℕ → ℕ) → List ℕ
 play b lat = playOn 30780 b lat nothing .starts
 
@@ -100,4 +100,4 @@ times b lat s v = ready b lat s v ∷ start s v ∷ finish lat s v ∷ []
 
 -- "The play table holds ready, start, finish per node, in node order."
 unfoldable pub playTable : Block → (ℕ → ℕ) → List ℕ
-playTable b lat = let s = play b lat in joined (5 * b .n) (times b lat s)
+playTable b lat = let s = play b lat in joined (nodes b) (times b lat s)

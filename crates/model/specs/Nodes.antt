@@ -29,6 +29,10 @@ CM = 4
 abbrev pub node : ℕ → ℕ → ℕ
 node g i = 5 * i + g
 
+-- "An edge to an instruction beyond n isn't there.": the nodes of a block are those below this number
+abbrev pub nodes : Block → ℕ
+nodes b = 5 * b .n
+
 -- the stage of node v
 abbrev pub stage : ℕ → ℕ
 stage v = v % 5

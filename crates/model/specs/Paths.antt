@@ -1,5 +1,5 @@
 -- "Nodes and edges", its end: paths, and which EX nodes contend.
-use Prim.Native.Nat.{ℕ, _*_}
+use Prim.Native.Nat.{ℕ}
 use mathlib.Core.Bool.{Bool, false, not, _&&_, _||_}
 use mathlib.Core.List.{List, [], _++_}
 use lib.ListN.{length, getD}
@@ -7,7 +7,7 @@ use lib.Dec.{eqb}
 use Rattle.seqs.specs.Lists.{In, tab, those, inOrder}
 use Rattle.seqs.specs.Sums.{total, any}
 use Rattle.record.specs.declared.Block.{Block}
-use Rattle.model.specs.Nodes.{EX, node, entry, finishInto, orderInto}
+use Rattle.model.specs.Nodes.{EX, nodes, node, entry, finishInto, orderInto}
 
 -- "here they count as edges, also for paths": the predecessors of node v by edges of both sorts
 unfoldable pub edgesInto : Block → ℕ → List ℕ
@@ -20,7 +20,7 @@ pub data Path (b : Block) : ℕ → ℕ → Type 0 where
 
 -- the same computed in node order: of each node, whether a path leads to it from u
 unfoldable pub reached : Block → ℕ → List Bool
-reached b u = inOrder (λ before v. any (λ p. eqb p u || getD before p false) (edgesInto b v)) (5 * b .n)
+reached b u = inOrder (λ before v. any (λ p. eqb p u || getD before p false) (edgesInto b v)) (nodes b)
 
 -- a set of pairs of instructions: a table with true in row i at j where it has i and j
 abbrev pub Pairs : Type 0
@@ -42,7 +42,8 @@ count n p = total (tab n (λ j. length (those 0 j (λ i. p i j))))
 unfoldable pub paths : Block → Pairs
 paths b = tab (b .n) (λ i. let r = reached b (node EX i) in tab (b .n) (λ j. getD r (node EX j) false))
 
--- "Two EX nodes contend if their kinds are equal and no path leads from one to the other.", m having the paths
+-- "Two EX nodes contend if their kinds are equal and no path leads from one to the other.", m having the paths. That they
+-- then stand less than W apart is the theorem contend-near
 unfoldable pub contend : Block → Pairs → ℕ → ℕ → Bool
 contend b m i j = not (eqb i j) && eqb (entry b i .kind) (entry b j .kind) && not (has m i j) && not (has m j i)
 

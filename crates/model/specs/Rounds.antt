@@ -1,5 +1,5 @@
--- "Round rules". A rule stands before the one that uses it; otherwise the order is the paper's.
-use Prim.Native.Nat.{ℕ, zero, suc, _+_, _-_, _*_, min, max}
+-- "Round rules". A rule stands before the one that uses it; otherwise the order is that of the text.
+use Prim.Native.Nat.{ℕ, zero, suc, _+_, _-_, min, max}
 use mathlib.Core.Bool.{Bool, not, _&&_, _||_}
 use mathlib.Core.List.{List, [], _++_, map}
 use lib.ListN.{getD}
@@ -7,14 +7,14 @@ use lib.Dec.{leb, eqb}
 use Rattle.seqs.specs.Lists.{pick, joined, those, inOrder}
 use Rattle.seqs.specs.Sums.{largest, total, none}
 use Rattle.record.specs.declared.Block.{Block}
-use Rattle.model.specs.Nodes.{EX, CM, node, instruction, isEX, lowest, highest}
+use Rattle.model.specs.Nodes.{EX, CM, nodes, node, instruction, isEX, lowest, highest}
 use Rattle.model.specs.Paths.{Pairs, has, pairs, count, contending}
 use Rattle.model.specs.Cycles.{finish, ready, times}
 
 -- "Earliest ready: the largest of 0, predecessors' earliest finishes (finish edges) and earliest starts (order edges).
 -- Earliest start equals it": the list of both, in node order. "earliest finish adds lo (1 off EX)."
 unfoldable pub earliest : Block → List ℕ
-earliest b = inOrder (ready b (lowest b)) (5 * b .n)
+earliest b = inOrder (ready b (lowest b)) (nodes b)
 
 -- "Latest ready R is found in the same way from latest times.": s has the latest starts of the nodes before v
 unfoldable pub R : Block → List ℕ → ℕ → ℕ
@@ -50,7 +50,7 @@ latestStart b rivals s v =
 
 -- "A round goes in node order with a set of pairs known to be apart": its latest starts
 unfoldable pub round : Block → Pairs → Pairs → List ℕ
-round b con known = inOrder (latestStart b (rival con known)) (5 * b .n)
+round b con known = inOrder (latestStart b (rival con known)) (nodes b)
 
 -- "a contending pair is apart if one's latest finish is at most the other's earliest ready.": late has the latest starts,
 -- early the earliest ready times
@@ -83,7 +83,8 @@ roundsFrom (suc most) b con k known =
 unfoldable pub pairCount : Block → ℕ
 pairCount b = count (b .n) (has (contending b))
 
--- the rounds, the set being "empty at first". Each but the last finds a new pair, so there are at most pairs + 1
+-- the rounds, the set being "empty at first". pairs + 1 of them are allowed, and the last finds no new pair
+-- (windows-settled)
 unfoldable pub windows : Block → Windows
 windows b = let con = contending b in roundsFrom (count (b .n) (has con) + 1) b con 1 []
 
@@ -104,4 +105,4 @@ unfoldable pub windowTable : Block → List ℕ
 windowTable b =
     let early = earliest b in
     let late = windows b .late in
-    joined (5 * b .n) (λ v. times b (lowest b) early v ++ times b (highest b) late v)
+    joined (nodes b) (λ v. times b (lowest b) early v ++ times b (highest b) late v)

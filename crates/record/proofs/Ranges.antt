@@ -1,12 +1,11 @@
 -- What an accepted block is, in numbers: its header's and its instructions' ranges. Assumes nothing.
-use mathlib.Core.Path.{_≡_, refl, sym, ap, _∙_}
-use mathlib.Core.Bool.{Bool, true, false, not, _&&_, _||_}
+use mathlib.Core.Path.{_≡_, refl, _∙_}
+use mathlib.Core.Bool.{true, false, _&&_, _||_}
 use Prim.Native.Nat.{ℕ, _≤_, _<_}
 use native.Mathlib.Omega.{arith}
 use lib.ListN.{getD}
 use lib.Dec.{leb, ltb, eqb}
 use borrow.Author.Tests.{lt-ltb, ltb-false, leb-true, not-false}
-use Rattle.seqs.specs.Lists.{least}
 use Rattle.seqs.proofs.Least.{least-below}
 use Rattle.seqs.proofs.Tests.{or-left, or-right, and-left, and-right}
 use Rattle.record.specs.Rules.{lows, highs, outside, kind, register, used, rule, broken}

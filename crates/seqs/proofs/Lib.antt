@@ -5,3 +5,4 @@ pub mod Places
 pub mod Little
 pub mod Members
 pub mod Turns
+pub mod Those

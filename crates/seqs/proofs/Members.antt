@@ -37,6 +37,11 @@ map-in f x [] h = absurd h
 map-in f x (z ∷ xs) (inl e) = inl (ap f e)
 map-in f x (z ∷ xs) (inr h) = inr (map-in f x xs h)
 
+-- functions that agree on the elements
+pub map-ext : {A B : Type 0} (f g : A → B) (xs : List A) → ((x : A) → In x xs → f x ≡ g x) → map f xs ≡ map g xs
+map-ext f g [] h = refl
+map-ext f g (x ∷ xs) h = rw (h x (inl refl), map-ext f g xs (λ y i. h y (inr i))) refl
+
 -- ---- P of each element of a list
 abbrev pub Every : {A : Type 0} → (A → Type 0) → List A → Type 0
 Every P [] = Unit {0}
