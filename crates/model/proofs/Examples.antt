@@ -71,7 +71,7 @@ pub windowsB : windowTable blockB
 unfolding windowTable times joined tab tabFrom those thoseFrom inOrder largest total none any latency lowest highest finishEdges lastWriter source sources orderEdges into finishInto orderInto edgesInto reached pairs count paths contend contending finish ready earliest R rival B behind latestEX latestStart round apart new roundsFrom windows blockB
 windowsB = refl
 
-pub playB : playTable blockB (chosen (3 ∷ []))
+pub playB : playTable blockB (chosen blockB (3 ∷ []))
     ≡ 0 ∷ 0 ∷ 1
     ∷ 1 ∷ 1 ∷ 2
     ∷ 2 ∷ 2 ∷ 5
@@ -111,6 +111,6 @@ unfolding unfit started exists least leastFrom blockA
 start-beyond = refl
 
 -- the first cycle of E starts the first IF and nothing else
-pub first-cycle : cycle blockE (chosen (1 ∷ 4 ∷ 4 ∷ 12 ∷ [])) nothing ≡ state 1 (set fresh 0 0)
+pub first-cycle : cycle blockE (chosen blockE (1 ∷ 4 ∷ 4 ∷ 12 ∷ [])) nothing ≡ state 1 (set fresh 0 0)
 unfolding those thoseFrom all latency chosen finishEdges lastWriter source sources orderEdges into finishInto orderInto started finish runs units free begins turns cycle nothing blockE
 first-cycle = refl

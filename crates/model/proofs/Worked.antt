@@ -2,9 +2,13 @@
 use Prim.Native.Nat.{ℕ, _-_}
 use mathlib.Core.Path.{_≡_, refl}
 use mathlib.Core.List.{List, [], _∷_, _++_}
-use Rattle.seqs.specs.Lists.{tab, tabFrom, least, leastFrom, exists, those, thoseFrom, inOrder}
+use Rattle.seqs.specs.Lists.{tab, tabFrom, least, leastFrom, exists, those, thoseFrom, inOrder, joined}
 use Rattle.seqs.specs.Sums.{largest, total, none, any, all}
 use Rattle.seqs.proofs.Members.{Every}
+use Rattle.seqs.specs.Bytes.{bytes}
+use Rattle.record.specs.Rules.{lows, highs, outside, register, kind, used, unused, rule, broken}
+use Rattle.record.specs.Layout.{headBytes, entryBytes, entriesBytes, body, encoded}
+use Rattle.record.specs.Refusals.{verdict, headerTest, entryTest, blockTests, blockVerdict}
 use Rattle.record.specs.declared.Block.{Block}
 use Rattle.model.specs.Nodes.{EX, CM, node, latency, lowest, highest, chosen, finishEdges, lastWriter, source, sources, orderEdges, into, finishInto, orderInto}
 use Rattle.model.specs.Paths.{edgesInto, reached, pairs, count, paths, contend, contending}
@@ -60,9 +64,9 @@ worked =
     -- I "17, 2, 1, 1 (bound 18 after round one)"
     ∷ result (summary blockI ++ (boundOne blockI ∷ [])) (17 ∷ 2 ∷ 1 ∷ 1 ∷ 18 ∷ [])
     -- "playing E with first latency 1 ends at 27,"
-    ∷ result (playLength blockE (chosen (1 ∷ 4 ∷ 4 ∷ 12 ∷ [])) ∷ []) (27 ∷ [])
+    ∷ result (playLength blockE (chosen blockE (1 ∷ 4 ∷ 4 ∷ 12 ∷ [])) ∷ []) (27 ∷ [])
     -- "and with 4 at 23"
-    ∷ result (playLength blockE (chosen (4 ∷ 4 ∷ 4 ∷ 12 ∷ [])) ∷ []) (23 ∷ [])
+    ∷ result (playLength blockE (chosen blockE (4 ∷ 4 ∷ 4 ∷ 12 ∷ [])) ∷ []) (23 ∷ [])
     -- J, as D
     ∷ result (summary blockJ) (13 ∷ 1 ∷ 0 ∷ 0 ∷ [])
     ∷ []
@@ -71,3 +75,8 @@ worked =
 pub worked-by-hand : Every (λ r. r .found ≡ r .printed) worked
 unfolding worked summary firstEX roundOne firstEXOne boundOne tab tabFrom least leastFrom exists those thoseFrom inOrder largest total none any all latency lowest highest chosen finishEdges lastWriter source sources orderEdges into finishInto orderInto edgesInto reached pairs count paths contend contending started finish ready runs units free begins turns cycle nothing over playOn play playLength earliest R rival B behind latestEX latestStart round apart new roundsFrom pairCount windows roundCount apartCount bound blockA blockB blockC blockD blockE blockF blockG blockH blockI blockJ
 worked-by-hand = (refl, (refl, (refl, (refl, (refl, (refl, (refl, (refl, (refl, (refl, (refl, (refl, tt))))))))))))
+
+-- AND EACH BLOCK IS ACCEPTED
+pub blocks-accepted : Every (λ b. blockVerdict b ≡ (0, 0)) (blockA ∷ blockB ∷ blockC ∷ blockD ∷ blockE ∷ blockF ∷ blockG ∷ blockH ∷ blockI ∷ blockJ ∷ [])
+unfolding verdict blockTests headerTest entryTest least leastFrom lows highs outside register kind used unused rule broken encoded body headBytes entryBytes entriesBytes joined bytes blockA blockB blockC blockD blockE blockF blockG blockH blockI blockJ
+blocks-accepted = (refl, (refl, (refl, (refl, (refl, (refl, (refl, (refl, (refl, (refl, tt))))))))))

@@ -29,10 +29,6 @@ CM = 4
 abbrev pub node : ℕ → ℕ → ℕ
 node g i = 5 * i + g
 
--- "An edge to an instruction beyond n isn't there.": the nodes of a block are those below this number
-abbrev pub nodes : Block → ℕ
-nodes b = 5 * b .n
-
 -- the stage of node v
 abbrev pub stage : ℕ → ℕ
 stage v = v % 5
@@ -62,8 +58,12 @@ unfoldable pub highest : Block → ℕ → ℕ
 highest b v = latency (entry b (instruction v) .hi) v
 
 -- the one that a list with a number for each instruction chooses
-unfoldable pub chosen : List ℕ → ℕ → ℕ
-chosen l v = latency (getD l (instruction v) 0) v
+unfoldable pub chosen : Block → List ℕ → ℕ → ℕ
+chosen b l v = latency (getD l (instruction v) 0) v
+
+-- "An edge to an instruction beyond n isn't there.": the nodes of a block are those below this number
+abbrev pub nodes : Block → ℕ
+nodes b = 5 * b .n
 
 -- the edges from stage `from` of each instruction to stage `to` of the one that stands `far` after it
 pub record Edges : Type 0 where

@@ -42,8 +42,8 @@ count n p = total (tab n (λ j. length (those 0 j (λ i. p i j))))
 unfoldable pub paths : Block → Pairs
 paths b = tab (b .n) (λ i. let r = reached b (node EX i) in tab (b .n) (λ j. getD r (node EX j) false))
 
--- "Two EX nodes contend if their kinds are equal and no path leads from one to the other.", m having the paths. That they
--- then stand less than W apart is the theorem contend-near
+-- "Two EX nodes contend if their kinds are equal and no path leads from one to the other.", m having the paths. "distance
+-- below W, then follows": contend-near
 unfoldable pub contend : Block → Pairs → ℕ → ℕ → Bool
 contend b m i j = not (eqb i j) && eqb (entry b i .kind) (entry b j .kind) && not (has m i j) && not (has m j i)
 
