@@ -14,12 +14,12 @@ use native.Mathlib.Omega.{arith}
 use lib.ListN.{getD}
 use lib.Dec.{leb, eqb}
 use borrow.Author.Tests.{eqb-true, eq-eqb, ne-eqb, le-leb, leb-true, leb-false}
-use Rattle.seqs.specs.Lists.{In, tab, inOrder}
+use Rattle.seqs.specs.Lists.{In, Every, tab, inOrder}
 use Rattle.seqs.specs.Sums.{any}
 use Rattle.seqs.proofs.Tests.{by-test, or-cases, or-first, or-second, same-test}
-use Rattle.seqs.proofs.Members.{in-split, in-left, in-right, Every, every, any-find, any-in, any-ext}
+use Rattle.seqs.proofs.Members.{in-split, in-left, in-right, _▸_, every, any-find, any-in, any-ext}
 use Rattle.seqs.proofs.Tables.{length-tab, getD-tab, is-tab}
-use Rattle.seqs.proofs.Turns.{inOrder-keeps}
+use Rattle.seqs.proofs.InOrder.{inOrder-keeps}
 use Rattle.record.specs.declared.Block.{Block}
 use Rattle.record.proofs.Ranges.{Ranges}
 use Rattle.model.specs.Nodes.{ID, EX, WB, CM, node, stage, instruction, entry, Edges, edges, finishEdges, orderEdges, sources, finishInto, orderInto}
@@ -65,44 +65,24 @@ Carries b i e = (e .from < 5) × ((a : ℕ) → Said b i (e .from) a → Said b 
 module _ (b : Block) (i : ℕ) where
   finish-carries : Every (Carries b i) (finishEdges b)
   unfolding finishEdges
-  finish-carries = (
-    (omega arith, λ a h. omega arith),
-    (
-      (omega arith, λ a h. inr (inr (omega arith))),
-      (
-        (omega arith, λ a h. plus a h),
-        (
-          (omega arith, λ a h. omega (arith, near-up b i a h)),
-          (
-            (omega arith, λ a h. omega arith),
-            (
-              (omega arith, λ a h. omega arith),
-              (
-                (omega arith, λ a h. omega arith),
-                (
-                  (omega arith, λ a h. omega arith),
-                  ((omega arith, λ a h. omega arith), tt),
-                ),
-              ),
-            ),
-          ),
-        ),
-      ),
-    ),
-  )
+  finish-carries =
+      (omega arith, λ a h. omega arith)
+      ▸ (omega arith, λ a h. inr (inr (omega arith)))
+      ▸ (omega arith, λ a h. plus a h)
+      ▸ (omega arith, λ a h. omega (arith, near-up b i a h))
+      ▸ (omega arith, λ a h. omega arith)
+      ▸ (omega arith, λ a h. omega arith)
+      ▸ (omega arith, λ a h. omega arith)
+      ▸ (omega arith, λ a h. omega arith)
+      ▸ (omega arith, λ a h. omega arith)
+      ▸ tt
     where
       plus : (a : ℕ) → Near b i a → Near b i (a + 0)
       plus a h = let e : a ≡ a + 0 = omega arith in subst (λ (x : ℕ). Near b i x) e h
 
   order-carries : Every (Carries b i) (orderEdges b)
   unfolding orderEdges
-  order-carries = (
-    (omega arith, λ a h. omega arith),
-    (
-      (omega arith, λ a h. omega arith),
-      ((omega arith, λ a h. omega arith), tt),
-    ),
-  )
+  order-carries = (omega arith, λ a h. omega arith) ▸ (omega arith, λ a h. omega arith) ▸ (omega arith, λ a h. omega arith) ▸ tt
 
   leads-carries : (es : List Edges) → Every (Carries b i) es → (u v : ℕ) → Leads es u v → Said b i (stage u) (instruction u) → Said b i (stage v) (instruction v)
   leads-carries es all u v l h =
@@ -282,5 +262,5 @@ module _ (b : Block) (A : Ranges b) (i j : ℕ) (l : i < j) (h : j < b .n) where
   pub contending-chains : has (contending b) i j ≡ (eqb (entry b i .kind) (entry b j .kind) && not (leb (i + b .w) j || has (chains b) j i))
   unfolding contend
   contending-chains =
-      contending-at b A i j (omega arith) h
+      contending-at b i j (omega arith) h
       ∙ rw (ne-eqb i j (λ e. omega arith), none-back, paths-chains) (and-true _)

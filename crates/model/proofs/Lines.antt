@@ -9,7 +9,7 @@ use Rattle.seqs.specs.Lists.{those}
 use Rattle.seqs.specs.Sums.{largest}
 use Rattle.seqs.proofs.Members.{map-ext}
 use Rattle.seqs.proofs.Those.{those-in}
-use Rattle.seqs.proofs.Turns.{inOrder-keeps}
+use Rattle.seqs.proofs.InOrder.{inOrder-keeps}
 use Rattle.record.specs.declared.Block.{Block}
 use Rattle.record.proofs.Ranges.{Ranges}
 use Rattle.model.specs.Nodes.{EX, nodes, node, instruction, lowest, highest, finishInto, orderInto}

@@ -7,9 +7,9 @@ use mathlib.Core.Logic.{_⊎_, inl, inr}
 use native.Mathlib.Omega.{arith}
 use lib.Dec.{leb, eqb}
 use borrow.Author.Tests.{leb-true, le-leb, eqb-true, eq-eqb}
-use Rattle.seqs.specs.Lists.{In, pick}
+use Rattle.seqs.specs.Lists.{In, Every, pick}
 use Rattle.seqs.proofs.Tests.{and-left, and-right}
-use Rattle.seqs.proofs.Members.{in-split, in-left, in-right, in-map, map-in, Every, every}
+use Rattle.seqs.proofs.Members.{in-split, in-left, in-right, in-map, map-in, _▸_, every}
 use Rattle.record.specs.declared.Block.{Block}
 use Rattle.record.proofs.Ranges.{Ranges}
 use Rattle.model.specs.Nodes.{EX, WB, node, stage, instruction, isEX, entry, Edges, edges, finishEdges, lastWriter, source, sources, orderEdges, into, finishInto, orderInto}
@@ -22,7 +22,7 @@ in-pick x false xs ys h = inr (refl, h)
 
 -- ---- edges by stage
 
--- e is one of the edges es and leads from u to v
+-- one of the edges es leads from u to v
 pub record Leads (es : List Edges) (u v : ℕ) : Type 0 where
   pub by : Edges
   pub one : In by es
@@ -150,11 +150,11 @@ module _ (b : Block) (A : Ranges b) where
   finish-up : Every Up (finishEdges b)
   unfolding finishEdges
   finish-up =
-      (omega arith, (omega arith, (omega arith, (omega arith, (omega (arith, A .q .0), (omega (arith, A .w .0), (omega (arith, A .f .0), (omega (arith, A .d .0), (omega (arith, A .c .0), tt)))))))))
+      omega arith ▸ omega arith ▸ omega arith ▸ omega arith ▸ omega (arith, A .q .0) ▸ omega (arith, A .w .0) ▸ omega (arith, A .f .0) ▸ omega (arith, A .d .0) ▸ omega (arith, A .c .0) ▸ tt
 
   order-up : Every Up (orderEdges b)
   unfolding orderEdges
-  order-up = (omega arith, (omega arith, (omega arith, tt)))
+  order-up = omega arith ▸ omega arith ▸ omega arith ▸ tt
 
   pub finish-below : (u v : ℕ) → In u (finishInto b v) → u < v
   finish-below u v h = go (finish-cases b u v h)
@@ -182,7 +182,7 @@ OffEX e = (e .from < 5) × (e .from ≡ EX → ⊥)
 pub order-off-EX : (b : Block) (u v : ℕ) → In u (orderInto b v) → isEX u ≡ true → ⊥
 unfolding orderInto orderEdges
 order-off-EX b u v h t =
-    let off : Every OffEX (orderEdges b) = ((omega arith, λ e. omega arith), ((omega arith, λ e. omega arith), ((omega arith, λ e. omega arith), tt))) in
+    let off : Every OffEX (orderEdges b) = (omega arith, λ e. omega arith) ▸ (omega arith, λ e. omega arith) ▸ (omega arith, λ e. omega arith) ▸ tt in
     let l = into-leads (orderEdges b) u v h in
     let a = every OffEX (orderEdges b) off (l .by) (l .one) in
     a .1 (omega (arith, a .0, l .from, eqb-true (stage u) EX t))

@@ -4,39 +4,18 @@
 -- Why: a pair is a rival while it contends and is not known to be apart. A round that finds new pairs takes just those from
 -- the rivals and adds them to the known. So with fewer rivals than rounds allowed, a round that finds none comes in time.
 use Prim.Native.Nat.{ℕ, zero, suc, _+_, _≤_, _<_}
-use mathlib.Core.Path.{_≡_, refl, ap, _∙_}
+use mathlib.Core.Path.{_≡_, refl, _∙_}
 use mathlib.Core.Bool.{Bool, true, false, not, _&&_, _||_, and-true}
 use mathlib.Core.List.{List, []}
 use native.Mathlib.Omega.{arith}
 use lib.Dec.{eqb}
 use borrow.Author.Tests.{eqb-true, eqb-false}
-use Rattle.seqs.specs.Lists.{tab}
 use Rattle.seqs.proofs.Tests.{by-test}
-use Rattle.seqs.proofs.Tables.{getD-tab}
-use Rattle.seqs.proofs.Those.{one, those-parted, total-parted}
+use Rattle.seqs.proofs.Those.{one}
 use Rattle.record.specs.declared.Block.{Block}
 use Rattle.model.specs.Paths.{Pairs, has, pairs, count, contending}
 use Rattle.model.specs.Rounds.{earliest, rival, round, apart, new, Windows, roundsFrom, windows, pairCount, roundCount, apartCount}
-
--- ---- pairs and their number
-pub has-pairs : (n : ℕ) (p : ℕ → ℕ → Bool) (i j : ℕ) → i < n → j < n → has (pairs n p) i j ≡ p i j
-unfolding pairs
-has-pairs n p i j hi hj = rw (getD-tab n (λ k. tab n (p k)) i _ hi) (getD-tab n (p i) j false hj)
-
-pub count-parted : (n : ℕ) (p q r : ℕ → ℕ → Bool) → ((i j : ℕ) → i < j → j < n → one (p i j) ≡ one (q i j) + one (r i j))
-    → count n p ≡ count n q + count n r
-unfolding count
-count-parted n p q r h =
-    total-parted _ _ _ n (λ j l. those-parted (λ i. p i j) (λ i. q i j) (λ i. r i j) 0 j (omega arith) (λ i a m. h i j m l))
-
-zero-count : (n : ℕ) → count n (λ i j. false) ≡ 0
-zero-count n = let e = count-parted n (λ i j. false) (λ i j. false) (λ i j. false) (λ i j l m. refl) in omega arith
-
-pub count-ext : (n : ℕ) (p q : ℕ → ℕ → Bool) → ((i j : ℕ) → i < j → j < n → p i j ≡ q i j) → count n p ≡ count n q
-count-ext n p q h =
-    let e = count-parted n p q (λ i j. false) (λ i j l m. let s = ap one (h i j l m) in omega arith) in
-    let z = zero-count n in
-    omega arith
+use Rattle.model.proofs.Sets.{has-pairs, count-parted, count-none, count-ext}
 
 -- ---- one round
 module _ (b : Block) (con known : Pairs) (early late : List ℕ) where
@@ -117,7 +96,7 @@ module _ (b : Block) where
   all-rivals = count-ext (b .n) (rival (contending b) []) (has (contending b)) (λ i j l m. and-true (has (contending b) i j))
 
   none-known : count (b .n) (has []) ≡ 0
-  none-known = count-ext (b .n) (has []) (λ i j. false) (λ i j l m. refl) ∙ zero-count (b .n)
+  none-known = count-ext (b .n) (has []) (λ i j. false) (λ i j l m. refl) ∙ count-none (b .n)
 
   whole : Rest b (contending b) 1 [] (windows b)
   unfolding windows pairCount

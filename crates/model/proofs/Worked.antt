@@ -2,9 +2,8 @@
 use Prim.Native.Nat.{ℕ, _-_}
 use mathlib.Core.Path.{_≡_, refl}
 use mathlib.Core.List.{List, [], _∷_, _++_}
-use Rattle.seqs.specs.Lists.{tab, tabFrom, least, leastFrom, exists, those, thoseFrom, inOrder, joined}
+use Rattle.seqs.specs.Lists.{Every, tab, tabFrom, least, leastFrom, exists, those, thoseFrom, inOrder, joined}
 use Rattle.seqs.specs.Sums.{largest, total, none, any, all}
-use Rattle.seqs.proofs.Members.{Every}
 use Rattle.seqs.specs.Bytes.{bytes}
 use Rattle.record.specs.Rules.{lows, highs, outside, register, kind, used, unused, rule, broken}
 use Rattle.record.specs.Layout.{headBytes, entryBytes, entriesBytes, body, encoded}

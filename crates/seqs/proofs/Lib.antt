@@ -4,5 +4,5 @@ pub mod Least
 pub mod Places
 pub mod Little
 pub mod Members
-pub mod Turns
+pub mod InOrder
 pub mod Those

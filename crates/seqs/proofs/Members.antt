@@ -4,7 +4,7 @@ use mathlib.Core.Path.{_≡_, refl, sym, ap, subst, _∙_}
 use mathlib.Core.Bool.{Bool, true, false≢true}
 use mathlib.Core.List.{List, [], _∷_, _++_, map}
 use mathlib.Core.Logic.{_⊎_, inl, inr}
-use Rattle.seqs.specs.Lists.{In}
+use Rattle.seqs.specs.Lists.{In, Every}
 use Rattle.seqs.specs.Sums.{any}
 use Rattle.seqs.proofs.Tests.{or-cases, or-first, or-second}
 
@@ -42,10 +42,10 @@ pub map-ext : {A B : Type 0} (f g : A → B) (xs : List A) → ((x : A) → In x
 map-ext f g [] h = refl
 map-ext f g (x ∷ xs) h = rw (h x (inl refl), map-ext f g xs (λ y i. h y (inr i))) refl
 
--- ---- P of each element of a list
-abbrev pub Every : {A : Type 0} → (A → Type 0) → List A → Type 0
-Every P [] = Unit {0}
-Every P (x ∷ xs) = P x × Every P xs
+-- ---- P of each element of a list: p ▸ q ▸ .. ▸ tt
+infixr 20 _▸_
+pub _▸_ : {P Q : Type 0} → P → Q → P × Q
+p ▸ q = (p, q)
 
 pub every : {A : Type 0} (P : A → Type 0) (xs : List A) → Every P xs → (x : A) → In x xs → P x
 every P [] a x h = absurd h

@@ -1,4 +1,5 @@
--- Those numbers of a range at which a test holds, and how many: a test parted in two, a test that never holds. Assumes nothing.
+-- Those numbers of a range at which a test holds: how many, where the test is parted in two, and what each of them is.
+-- Assumes nothing.
 use Prim.Native.Nat.{ℕ, zero, suc, _+_, _-_, _≤_, _<_}
 use mathlib.Core.Path.{_≡_, refl, ap, _∙_}
 use mathlib.Core.Bool.{Bool, true, false}

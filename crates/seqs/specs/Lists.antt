@@ -1,4 +1,5 @@
--- Lists by index: a table, pieces joined, a part put in place, and the lowest index of a fault.
+-- Lists by index: a table, pieces joined, a part put in place, the lowest index of a fault, what is in a list, the numbers
+-- at which a test holds, a list built in order.
 use Prim.Native.Nat.{ℕ, zero, suc, _+_, _-_}
 use mathlib.Core.Path.{_≡_}
 use mathlib.Core.Logic.{_⊎_}
@@ -43,6 +44,11 @@ least a b p = leastFrom p a (b - a)
 abbrev pub In : {A : Type 0} → A → List A → Type 0
 In x [] = ⊥
 In x (y ∷ ys) = (x ≡ y) ⊎ In x ys
+
+-- P of each element of a list
+abbrev pub Every : {A : Type 0} → (A → Type 0) → List A → Type 0
+Every P [] = Unit {0}
+Every P (x ∷ xs) = P x × Every P xs
 
 -- p holds at some number from a on and below b
 unfoldable pub exists : ℕ → ℕ → (ℕ → Bool) → Bool
