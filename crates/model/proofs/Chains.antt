@@ -204,7 +204,7 @@ module _ (b : Block) where
       ∙ any-ext (λ a. eqb a i || has s a i) (λ a. eqb a i || has t a i) (sources b j)
       (λ a h. ap (λ (r : List Bool). eqb a i || getD r i false) (same a (sources-before b j a h))))
 
-  chains-is : (i j : ℕ) → i < b .n → j < b .n → has (chains b) j i ≡ any (from-i i) (sources b j)
+  pub chains-is : (i j : ℕ) → i < b .n → j < b .n → has (chains b) j i ≡ any (from-i i) (sources b j)
   unfolding chains
   chains-is i j hi hj =
       ap (λ (r : List Bool). getD r i false)

@@ -6,3 +6,4 @@ pub mod Reached
 pub mod Chains
 pub mod Lines
 pub mod Settled
+pub mod Limit

@@ -2,12 +2,12 @@
 -- is no path from one to the other. Assumes nothing.
 use Prim.Native.Nat.{ℕ, zero, suc, _<_}
 use mathlib.Core.Path.{_≡_, refl, sym, ap, _∙_, subst}
-use mathlib.Core.Bool.{Bool, true, false, not, _&&_, _||_, false≢true}
+use mathlib.Core.Bool.{Bool, true, false, not, _&&_, _||_, false≢true, and-assoc, and-comm}
 use mathlib.Core.Logic.{_⊎_, inl, inr}
 use native.Mathlib.Omega.{arith}
 use lib.ListN.{getD}
 use lib.Dec.{eqb}
-use borrow.Author.Tests.{eqb-true, eq-eqb, ne-eqb}
+use borrow.Author.Tests.{eqb-true, eqb-false, eq-eqb, ne-eqb}
 use Rattle.seqs.specs.Lists.{In}
 use Rattle.seqs.specs.Sums.{any}
 use Rattle.seqs.proofs.Tests.{by-test, and-left, and-right, and-both, or-cases, or-first, or-second}
@@ -86,6 +86,21 @@ pub record Contends (b : Block) (i j : ℕ) : Type 0 where
 pub contending-at : (b : Block) (i j : ℕ) → i < b .n → j < b .n → has (contending b) i j ≡ contend b (paths b) i j
 unfolding contending
 contending-at b = has-pairs (b .n) (contend b (paths b))
+
+eqb-even : (i j : ℕ) → eqb i j ≡ eqb j i
+eqb-even i j =
+    by-test (eqb j i) (λ t. eq-eqb i j (sym (eqb-true j i t)) ∙ sym t) (λ t. ne-eqb i j (λ e. eqb-false j i t (sym e)) ∙ sym t)
+
+and-swap : (x p q : Bool) → (x && p && q) ≡ (x && q && p)
+and-swap x p q = and-assoc x p q ∙ ap (λ (y : Bool). x && y) (and-comm p q) ∙ sym (and-assoc x q p)
+
+-- a pair contends whichever of the two is named first
+pub contending-even : (b : Block) (i j : ℕ) → i < b .n → j < b .n → has (contending b) i j ≡ has (contending b) j i
+unfolding contend
+contending-even b i j hi hj =
+    contending-at b i j hi hj
+    ∙ rw (eqb-even i j, eqb-even (entry b i .kind) (entry b j .kind)) (and-swap (not (eqb j i) && eqb (entry b j .kind) (entry b i .kind)) (not (has (paths b) i j)) (not (has (paths b) j i)))
+    ∙ sym (contending-at b j i hj hi)
 
 module _ (b : Block) (A : Ranges b) (i j : ℕ) (hi : i < b .n) (hj : j < b .n) where
   -- THE TABLE HAS EXACTLY THE PAIRS THAT CONTEND

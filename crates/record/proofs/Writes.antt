@@ -1,24 +1,23 @@
--- The verdict of a block value and of a write, by the first test that fails; and the output piece by piece. Assumes nothing.
+-- The verdict of a block value, of a write and of what else is put in an output, by the first test that fails; and the output
+-- piece by piece. Assumes nothing.
 use mathlib.Core.Path.{_≡_, refl, sym, ap, _∙_}
-use mathlib.Core.Bool.{false, not}
-use mathlib.Core.List.{List, [], _∷_, _++_, append-nil, append-assoc}
-use Prim.Native.Nat.{ℕ, suc, _+_, _*_, _≤_, _<_}
-use native.Mathlib.Numerals.{add-one}
+use mathlib.Core.Bool.{Bool, true, false, not}
+use mathlib.Core.List.{List, [], _∷_, _++_, append-nil}
+use Prim.Native.Nat.{ℕ, _+_, _*_, _≤_, _<_}
 use native.Mathlib.Omega.{arith}
-use lib.ListN.{length, getD, take, drop, take-append-drop, length-append, drop-of-length-le, List·getD-append}
-use lib.Seq.{length-take-le}
+use lib.ListN.{length, getD, drop, drop-of-length-le, List·getD-append}
 use lib.Dec.{eqb, ltb}
 use borrow.Author.Tests.{eq-eqb, ne-eqb, eqb-true, ltb-true, ltb-false, not-false}
-use Rattle.seqs.specs.Lists.{least, put, joined}
+use Rattle.seqs.specs.Lists.{pick, least, put}
 use Rattle.seqs.specs.Bytes.{bytes}
 use Rattle.seqs.proofs.Least.{least-from, least-past, least-back, least-ext}
-use Rattle.seqs.proofs.Places.{put-next, length-joined}
+use Rattle.seqs.proofs.Places.{put-next, piecesIn, pieces-none, pieces-more, pieces-all}
 use Rattle.seqs.proofs.Little.{length-bytes}
 use Rattle.seqs.proofs.Tests.{by-test, end, _▹_, each}
 use Rattle.record.specs.Check.{checkOf}
 use Rattle.record.specs.Rules.{lows, highs, outside, broken}
 use Rattle.record.specs.Layout.{noEntry, headBytes, entryBytes, entriesBytes, body, encoded}
-use Rattle.record.specs.Refusals.{Test, numberOf, meaning, verdict, headerTest, entryTest, outputTest, blockTests, writeTests, blockVerdict, writeVerdict, written}
+use Rattle.record.specs.Refusals.{Test, numberOf, meaning, verdict, headerTest, entryTest, outputTest, blockTests, writeTests, blockVerdict, writeVerdict, accepts, written}
 use Rattle.record.specs.Promises.{Writes}
 use Rattle.record.specs.declared.Answer.{Answer}
 use Rattle.record.specs.declared.Answer.the-variants.{Accepted, Refused}
@@ -82,76 +81,102 @@ module _ (b : Block) where
       (λ g. absurd (omega (arith, rw (block-entry q _ refl (ltb-true _ _ g)) at e)))
       (λ g. absurd (omega (arith, rw (block-none q (ltb-false _ _ g)) at e))))
 
--- ---- the outcome of a write
-module _ (b : Block) (o : List ℕ) where
-  pub write-refused : (r : Reason) (a : Answer) → a ≡ Refused r → meaning a ≡ blockVerdict b → Writes b o a o
-  unfolding writeTests written
-  write-refused r a e h =
-      let v : verdict (blockTests b) .0 ≡ numberOf r = ap (λ (p : ℕ × ℕ). p .0) (sym h ∙ ap meaning e) in
-      let f : writeVerdict b o ≡ blockVerdict b = after-refused (blockTests b) _ _ (v ∙ number-above r) in
-      record { answer = h ∙ sym f; output = rw (f, v, refused-not r) refl }
+-- ---- the outcome of an operation that tests a block value and then whether its output is right
+abbrev pub putVerdict : Block → Bool → ℕ × ℕ
+putVerdict b right = verdict (blockTests b ++ (outputTest right ∷ []))
 
-  past-block : blockVerdict b ≡ (0, 0) → writeVerdict b o ≡ verdict (outputTest (eqb (length o) 512) ∷ [])
-  unfolding writeTests blockTests headerTest entryTest
+-- an output that held o and then holds o': the answer is the verdict, and the output is what is made or untouched
+pub record Outcome (b : Block) (right : Bool) (made o : List ℕ) (a : Answer) (o' : List ℕ) : Type 0 where
+  pub answer : meaning a ≡ putVerdict b right
+  pub output : o' ≡ pick (accepts (putVerdict b right)) made o
+
+module _ (b : Block) (right : Bool) where
+  past-block : blockVerdict b ≡ (0, 0) → putVerdict b right ≡ verdict (outputTest right ∷ [])
+  unfolding blockTests headerTest entryTest
   past-block z = after-accepted (blockTests b) _ refl z
 
+  -- what an accepted one is
+  pub put-fine : putVerdict b right ≡ (0, 0) → (blockVerdict b ≡ (0, 0)) × (right ≡ true)
+  unfolding blockTests headerTest entryTest outputTest
+  put-fine z =
+      let a = passed-lowest 4 4 28 (outside (encoded b)) _ (omega arith) z in
+      let d = passed-lowest 5 0 60 (broken (encoded b)) _ (omega arith) (a .1) in
+      let g = passed (outputTest right) _ (omega arith) (d .1) in
+      (block-none b (a .0) (d .0), not-false _ (g .0))
+
+  module _ (made o : List ℕ) where
+    pub put-refused : (r : Reason) (a : Answer) → a ≡ Refused r → meaning a ≡ blockVerdict b → Outcome b right made o a o
+    put-refused r a e h =
+        let v : verdict (blockTests b) .0 ≡ numberOf r = ap (λ (p : ℕ × ℕ). p .0) (sym h ∙ ap meaning e) in
+        let f : putVerdict b right ≡ blockVerdict b = after-refused (blockTests b) _ _ (v ∙ number-above r) in
+        record { answer = h ∙ sym f; output = rw (f, v, refused-not r) refl }
+
+    pub put-output : blockVerdict b ≡ (0, 0) → right ≡ false → Outcome b right made o (Refused Output) o
+    unfolding outputTest
+    put-output z h =
+        let f : putVerdict b right ≡ (6, 0) = past-block z ∙ refuse (outputTest right) [] (ap not h) in
+        record { answer = sym f; output = rw f refl }
+
+    pub put-done : blockVerdict b ≡ (0, 0) → right ≡ true → (p : List ℕ) → p ≡ made → Outcome b right made o Accepted p
+    unfolding outputTest
+    put-done z h p e =
+        let f : putVerdict b right ≡ (0, 0) = past-block z ∙ pass (outputTest right) [] (ap not h) ∙ none in
+        record { answer = sym f; output = rw f e }
+
+-- ---- the outcome of a write
+module _ (b : Block) (o : List ℕ) where
+  written-so : (a : Answer) (p : List ℕ) → Outcome b (eqb (length o) 512) (encoded b) o a p → Writes b o a p
+  unfolding writeTests written
+  written-so a p x = record { answer = x .answer; output = x .output }
+
+  pub write-refused : (r : Reason) (a : Answer) → a ≡ Refused r → meaning a ≡ blockVerdict b → Writes b o a o
+  write-refused r a e h = written-so a o (put-refused b _ _ o r a e h)
+
   pub write-output : blockVerdict b ≡ (0, 0) → (length o ≡ 512 → ⊥) → Writes b o (Refused Output) o
-  unfolding written outputTest
-  write-output z h =
-      let f : writeVerdict b o ≡ (6, 0) = past-block z ∙ refuse (outputTest (eqb (length o) 512)) [] (ap not (ne-eqb (length o) 512 h)) in
-      record { answer = sym f; output = rw f refl }
+  write-output z h = written-so _ o (put-output b _ _ o z (ne-eqb (length o) 512 h))
+
+  pub write-done : blockVerdict b ≡ (0, 0) → length o ≡ 512 → (p : List ℕ) → p ≡ encoded b → Writes b o Accepted p
+  write-done z h p e = written-so _ p (put-done b _ _ o z (eq-eqb (length o) 512 h) p e)
 
   -- what an accepted write is
   pub write-fine : writeVerdict b o ≡ (0, 0) → (blockVerdict b ≡ (0, 0)) × (length o ≡ 512)
-  unfolding writeTests blockTests headerTest entryTest outputTest
-  write-fine z =
-      let a = passed-lowest 4 4 28 (outside (encoded b)) _ (omega arith) z in
-      let d = passed-lowest 5 0 60 (broken (encoded b)) _ (omega arith) (a .1) in
-      let g = passed (outputTest (eqb (length o) 512)) _ (omega arith) (d .1) in
-      (block-none b (a .0) (d .0), eqb-true _ _ (not-false _ (g .0)))
-
-  pub write-done : blockVerdict b ≡ (0, 0) → length o ≡ 512 → (p : List ℕ) → p ≡ encoded b → Writes b o Accepted p
-  unfolding written outputTest
-  write-done z h p e =
-      let f : writeVerdict b o ≡ (0, 0)
-      = past-block z ∙ pass (outputTest (eqb (length o) 512)) [] (ap not (eq-eqb (length o) 512 h)) ∙ none in
-      record { answer = sym f; output = rw f e }
+  unfolding writeTests
+  write-fine z = let f = put-fine b _ z in (f .0, eqb-true _ _ (f .1))
 
 -- ---- the output piece by piece
+
+-- a header of 28 bytes and 60 entries of 8 put in place
+pub put-entries : (head entries o : List ℕ) → length head ≡ 28 → length entries ≡ 480 → put (head ++ drop 28 o) 28 entries ≡ head ++ entries ++ drop 508 o
+put-entries head entries o h e = put-next head entries o 28 h ∙ rw e refl
+
+-- the check put behind the 508 bytes of a body
+pub put-seal : (bs o : List ℕ) → length bs ≡ 508 → length o ≡ 512 → put (bs ++ drop 508 o) 508 (bytes 4 (checkOf (bs ++ drop 508 o))) ≡ bs ++ bytes 4 (checkOf bs)
+put-seal bs o n l =
+    let k : checkOf (bs ++ drop 508 o) ≡ checkOf bs
+    = check-ext _ bs (λ j h. List·getD-append bs (drop 508 o) 0 j (omega arith)) in
+    let e : drop 512 o ≡ [] = drop-of-length-le o {i = 512} (omega arith) in
+    rw k (put-next bs (bytes 4 (checkOf bs)) o 508 n ∙ rw (length-bytes, e, append-nil) refl)
+
 module _ (b : Block) (o : List ℕ) where
-  -- the entries put behind the header
   pub put-body : put (headBytes b ++ drop 28 o) 28 (entriesBytes b) ≡ body b ++ drop 508 o
   unfolding body
-  put-body = put-next (headBytes b) (entriesBytes b) o 28 (length-head b) ∙ rw (length-entries b) refl
+  put-body = put-entries (headBytes b) (entriesBytes b) o (length-head b) (length-entries b)
 
-  -- the check put behind the body of an output of 512 bytes
   pub put-check : length o ≡ 512 → put (body b ++ drop 508 o) 508 (bytes 4 (checkOf (body b ++ drop 508 o))) ≡ encoded b
   unfolding encoded
-  put-check l =
-      let k : checkOf (body b ++ drop 508 o) ≡ checkOf (body b)
-      = check-ext _ (body b) (λ j h. List·getD-append (body b) (drop 508 o) 0 j (omega (arith, length-body b))) in
-      let n : drop 512 o ≡ [] = drop-of-length-le o {i = 512} (omega arith) in
-      rw k (put-next (body b) (bytes 4 (checkOf (body b))) o 508 (length-body b) ∙ rw (length-bytes, n, append-nil) refl)
+  put-check l = put-seal (body b) o (length-body b) l
 
 -- the first i entries put behind the header of o, and the rest of o
 abbrev pub entriesIn : Block → List ℕ → ℕ → List ℕ
-entriesIn b o i = take 28 o ++ joined i (λ j. entryBytes (getD (b .entries) j noEntry)) ++ drop (28 + 8 * i) o
+entriesIn b o i = piecesIn 8 28 (λ j. entryBytes (getD (b .entries) j noEntry)) o i
 
 module _ (b : Block) (o : List ℕ) where
   pub entries-none : o ≡ entriesIn b o 0
-  unfolding joined
-  entries-none = rw append-nil (sym (take-append-drop 28 o))
+  entries-none = pieces-none 8 28 _ o
 
-  pub entries-more : (i : ℕ) → length o ≡ 512 → i < 60 → put (entriesIn b o i) (28 + 8 * i) (entryBytes (getD (b .entries) i noEntry)) ≡ entriesIn b o (i + 1)
-  unfolding joined
-  entries-more i l h =
-      let f : ℕ → List ℕ = λ j. entryBytes (getD (b .entries) j noEntry) in
-      let n : length (take 28 o ++ joined i f) ≡ 28 + 8 * i
-      = length-append (take 28 o) (joined i f) ∙ rw (length-take-le 28 o (omega arith), length-joined 8 f (λ j. length-entry _) i) refl in
-      let m : 28 + 8 * i + 8 ≡ 28 + 8 * suc i = omega arith in
-      put-next (take 28 o ++ joined i f) (f i) o (28 + 8 * i) n
-      ∙ rw (length-entry (getD (b .entries) i noEntry), m, add-one, append-assoc (take 28 o) (joined i f) (f i)) refl
+  pub entries-more : (i : ℕ) → length o ≡ 512 → put (entriesIn b o i) (28 + 8 * i) (entryBytes (getD (b .entries) i noEntry)) ≡ entriesIn b o (i + 1)
+  entries-more i l = pieces-more 8 28 _ o (λ j. length-entry _) i _ refl (omega arith)
 
   pub entries-all : entriesIn b o 60 ≡ put o 28 (entriesBytes b)
   unfolding entriesBytes
-  entries-all = rw (length-entries b) refl
+  entries-all = pieces-all 8 28 _ o (λ j. length-entry _) 60

@@ -8,7 +8,9 @@ mod writer;
 pub use reader::read;
 pub use reasons::number_of;
 pub use reasons::place_of;
+pub use sums::seal;
 pub use writer::block_answer;
+pub use writer::put_head;
 pub use writer::write;
 
 pub struct Entry {

@@ -97,7 +97,7 @@ pub fn block_answer(b: Block) -> Answer
     tested(b, &head)
 }
 
-fn put_head(head: &[u8], out: &mut [u8])
+pub fn put_head(head: &[u8], out: &mut [u8])
     requires { ⌜ (length (now head) ≡ 28) × (length (now out) ≡ 512) ⌝ }
     ensures { λ _. ⌜ now (out .exit) ≡ now (head .entry) ++ drop 28 (now (out .entry)) ⌝ }
 {

@@ -6,3 +6,8 @@ pub mod Little
 pub mod Members
 pub mod InOrder
 pub mod Those
+pub mod Sums
+pub mod Growing
+pub mod Fronts
+pub mod Elements
+pub mod Filled

@@ -7,6 +7,9 @@ use mathlib.Core.List.{List, _∷_}
 use mathlib.Core.Logic.{inl, inr}
 use native.Mathlib.Omega.{arith}
 use lib.ListN.{length}
+use Rattle.seqs.proofs.Tests.{by-test}
+use lib.Dec.{ltb}
+use borrow.Author.Tests.{ltb-true, ltb-false}
 use Rattle.seqs.specs.Lists.{In, pick, tab, tabFrom, those, thoseFrom}
 use Rattle.seqs.specs.Sums.{total}
 
@@ -65,3 +68,25 @@ total-from f g h i (suc n) e =
 pub total-parted : (f g h : ℕ → ℕ) (n : ℕ) → ((k : ℕ) → k < n → f k ≡ g k + h k) → total (tab n f) ≡ total (tab n g) + total (tab n h)
 unfolding tab
 total-parted f g h n e = total-from f g h 0 n (λ k a l. e k (omega arith))
+
+-- nothing but zeros, and one of the numbers
+sum-from : (f : ℕ → ℕ) (i n : ℕ) → ((k : ℕ) → i ≤ k → k < i + n → f k ≡ 0) → total (tabFrom f i n) ≡ 0
+unfolding total tabFrom
+sum-from f i zero h = refl
+sum-from f i (suc n) h = omega (arith, h i (omega arith) (omega arith), sum-from f (suc i) n (λ k a l. h k (omega arith) (omega arith)))
+
+pub sum-none : (f : ℕ → ℕ) (n : ℕ) → ((k : ℕ) → k < n → f k ≡ 0) → total (tab n f) ≡ 0
+unfolding tab
+sum-none f n h = sum-from f 0 n (λ k a l. h k (omega arith))
+
+sum-one-from : (f : ℕ → ℕ) (i n k : ℕ) → i ≤ k → k < i + n → f k ≤ total (tabFrom f i n)
+unfolding total tabFrom
+sum-one-from f i zero k a l = absurd (omega arith)
+sum-one-from f i (suc n) k a l =
+    by-test (ltb i k)
+    (λ t. omega (arith, sum-one-from f (suc i) n k (ltb-true i k t) (omega arith)))
+    (λ t. let e : i ≡ k = omega (arith, ltb-false i k t) in rw e (omega arith))
+
+pub sum-one : (f : ℕ → ℕ) (n k : ℕ) → k < n → f k ≤ total (tab n f)
+unfolding tab
+sum-one f n k l = sum-one-from f 0 n k (omega arith) (omega arith)

@@ -63,6 +63,11 @@ thoseFrom p i (suc n) = let rest = thoseFrom p (suc i) n in pick (p i) (i ∷ re
 unfoldable pub those : ℕ → ℕ → (ℕ → Bool) → List ℕ
 those a b p = thoseFrom p a (b - a)
 
+-- those of a list's numbers at which p holds
+unfoldable pub kept : (ℕ → Bool) → List ℕ → List ℕ
+kept p [] = []
+kept p (x ∷ xs) = let rest = kept p xs in pick (p x) (x ∷ rest) rest
+
 -- k elements in order, each worked out from those before it and its own number
 unfoldable pub inOrder : {A : Type 0} → (List A → ℕ → A) → ℕ → List A
 inOrder rule zero = []

@@ -21,7 +21,7 @@ loop-again c =
     let p = c .before .before .put-entry in
     let t = c .before .before .before .before .before .before .loop in
     let x = c .before .before .before .before .before .before .before .before .args in
-    (search needs, search needs, p .ensures ∙ rw (t .inv .2) (entries-more (x .t1) (x .out .now) (t .i) (search needs) (search needs)))
+    (search needs, search needs, p .ensures ∙ rw (t .inv .2) (entries-more (x .t1) (x .out .now) (t .i) (search needs)))
 
 returns : tie.Need-returns Inv-loop μ-loop
 returns c =

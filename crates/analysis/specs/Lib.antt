@@ -1,0 +1,4 @@
+pub mod Result
+pub mod Promises
+pub mod Rows
+pub mod Steps

@@ -1,0 +1,82 @@
+// The two operations: tests 4, 5 and 6, then the result record or the window table.
+ghost use mathlib.Core.Path.{_≡_};
+ghost use mathlib.Core.List.{_++_};
+ghost use Prim.Native.Nat.{_*_, _≤_};
+ghost use lib.ListN.{length, drop};
+ghost use Rattle.record.specs.Refusals.{blockVerdict};
+ghost use Rattle.model.specs.Rounds.{windowTable};
+ghost use Rattle.analysis.specs.Result.{result};
+ghost use Rattle.analysis.specs.Promises.{Analyses, Tables};
+use crate::lines::earliest_into;
+use crate::rounds::refine;
+use crate::tables::put_result;
+use crate::tables::put_table;
+use record::Answer;
+use record::Block;
+use record::Reason;
+
+fn result_into(b: Block, out: &mut [u8])
+    requires { ⌜ (blockVerdict b ≡ (0, 0)) × (length (now out) ≡ 512) ⌝ }
+    ensures { λ _. ⌜ now (out .exit) ≡ result b ⌝ }
+{
+    let h = links::shape_of(b);
+    let lo = links::column(b, 1);
+    let his = links::column(b, 2);
+    let s1 = links::sources(b, 4);
+    let s2 = links::sources(b, 5);
+    let mut early = [0u16; 300];
+    let mut late = [0u16; 300];
+    earliest_into(h, &lo, &s1, &s2, &mut early);
+    let counts = refine(b, &his, &s1, &s2, &early, &mut late);
+    put_result(b, &his, &early, &late, counts, out);
+}
+
+fn table_into(b: Block, out: &mut [u16])
+    requires { ⌜ (blockVerdict b ≡ (0, 0)) × (30 * b .n ≤ length (now out)) ⌝ }
+    ensures { λ _. ⌜ now (out .exit) ≡ windowTable b ++ drop (30 * b .n) (now (out .entry)) ⌝ }
+{
+    let h = links::shape_of(b);
+    let lo = links::column(b, 1);
+    let his = links::column(b, 2);
+    let s1 = links::sources(b, 4);
+    let s2 = links::sources(b, 5);
+    let mut early = [0u16; 300];
+    let mut late = [0u16; 300];
+    earliest_into(h, &lo, &s1, &s2, &mut early);
+    refine(b, &his, &s1, &s2, &early, &mut late);
+    put_table(b, &lo, &his, &s1, &s2, &early, &late, out);
+}
+
+// Writes the result record of a block to an output of 512 bytes.
+pub fn analyse(b: Block, out: &mut [u8]) -> Answer
+    ensures { λ r. ⌜ Analyses b (now (out .entry)) r (now (out .exit)) ⌝ }
+{
+    let answer = record::block_answer(b);
+    match answer {
+        Answer::Refused(_) => answer,
+        Answer::Accepted => {
+            if out.len() != 512 {
+                return Answer::Refused(Reason::Output);
+            }
+            result_into(b, out);
+            Answer::Accepted
+        }
+    }
+}
+
+// Writes the window table of a block to an output of at least 30 n numbers.
+pub fn windows(b: Block, out: &mut [u16]) -> Answer
+    ensures { λ r. ⌜ Tables b (now (out .entry)) r (now (out .exit)) ⌝ }
+{
+    let answer = record::block_answer(b);
+    match answer {
+        Answer::Refused(_) => answer,
+        Answer::Accepted => {
+            if out.len() < 30 * (b.n as usize) {
+                return Answer::Refused(Reason::Output);
+            }
+            table_into(b, out);
+            Answer::Accepted
+        }
+    }
+}

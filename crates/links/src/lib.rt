@@ -1,0 +1,25 @@
+// What the analysis and the play both ask of a block again and again: its header's numbers, its columns, its last writers,
+// and the ready time of each stage.
+mod columns;
+mod stages;
+
+pub use columns::column;
+pub use columns::shape_of;
+pub use columns::sources;
+pub use stages::larger;
+pub use stages::ready_cm;
+pub use stages::ready_ex;
+pub use stages::ready_id;
+pub use stages::ready_if;
+pub use stages::time;
+pub use stages::wide;
+
+// The header's numbers, as indices.
+pub struct Shape {
+    pub n: usize,
+    pub q: usize,
+    pub w: usize,
+    pub f: usize,
+    pub d: usize,
+    pub c: usize,
+}

@@ -1,0 +1,129 @@
+-- Those numbers of a range at which a test holds: of an empty range, of one with a number more, of a range whose front has
+-- none, by tests that agree, and by two tests joined. Assumes nothing.
+use Prim.Native.Nat.{ℕ, zero, suc, _+_, _-_, _≤_, _<_}
+use mathlib.Core.Path.{_≡_, refl, sym, ap, _∙_}
+use mathlib.Core.Bool.{Bool, true, false, _&&_}
+use mathlib.Core.List.{List, [], _∷_, _++_}
+use mathlib.Core.Logic.{inl, inr}
+use native.Mathlib.Nat.{add-zero, zero-add, suc-add, add-suc}
+use native.Mathlib.Omega.{arith}
+use lib.ListN.{length}
+use lib.Dec.{ltb, eqb}
+use borrow.Author.Tests.{ltb-true, ltb-false, lt-ltb, eqb-true, eq-eqb}
+use Rattle.seqs.specs.Lists.{In, pick, those, thoseFrom, kept}
+use Rattle.seqs.specs.Sums.{any}
+use Rattle.seqs.proofs.Tests.{by-test, and-left, and-right, and-both, same-test}
+use Rattle.seqs.proofs.Members.{any-find, any-in}
+use Rattle.seqs.proofs.Those.{those-in}
+
+pick-append : (t : Bool) (i : ℕ) (xs ys zs : List ℕ) → xs ≡ ys ++ zs → pick t (i ∷ xs) xs ≡ pick t (i ∷ ys) ys ++ zs
+pick-append true i xs ys zs e = ap (λ ws. i ∷ ws) e
+pick-append false i xs ys zs e = e
+
+in-pick : (t : Bool) (k i : ℕ) (xs : List ℕ) → In k xs → In k (pick t (i ∷ xs) xs)
+in-pick true k i xs h = inr h
+in-pick false k i xs h = h
+
+pick-length : (t : Bool) (i n : ℕ) (xs : List ℕ) → length xs ≤ n → length (pick t (i ∷ xs) xs) ≤ suc n
+pick-length true i n xs h = omega arith
+pick-length false i n xs h = omega arith
+
+module _ (p : ℕ → Bool) where
+  more-from : (i n : ℕ) → thoseFrom p i (suc n) ≡ thoseFrom p i n ++ pick (p (i + n)) ((i + n) ∷ []) []
+  unfolding thoseFrom
+  more-from i zero = rw add-zero refl
+  more-from i (suc n) =
+      pick-append (p i) i (thoseFrom p (suc i) (suc n)) (thoseFrom p (suc i) n) _
+      (more-from (suc i) n ∙ ap (λ k. thoseFrom p (suc i) n ++ pick (p k) (k ∷ []) []) (suc-add i n ∙ sym (add-suc i n)))
+
+  pub those-none : (a : ℕ) → those a a p ≡ []
+  unfolding those thoseFrom
+  those-none a = let e : a - a ≡ 0 = omega arith in rw e refl
+
+  -- one number more
+  pub those-more : (a b : ℕ) → a ≤ b → those a (b + 1) p ≡ those a b p ++ pick (p b) (b ∷ []) []
+  unfolding those
+  those-more a b l =
+      let e : b + 1 - a ≡ suc (b - a) = omega arith in
+      let s : a + (b - a) ≡ b = omega arith in
+      rw e (more-from a (b - a) ∙ ap (λ k. thoseFrom p a (b - a) ++ pick (p k) (k ∷ []) []) s)
+
+  front-from : (i m n : ℕ) → ((k : ℕ) → i ≤ k → k < i + m → p k ≡ false) → thoseFrom p i (m + n) ≡ thoseFrom p (i + m) n
+  unfolding thoseFrom
+  front-from i zero n h = rw (add-zero, zero-add) refl
+  front-from i (suc m) n h =
+      let e : i + suc m ≡ suc i + m = omega arith in
+      rw (suc-add, h i (omega arith) (omega arith), e) (front-from (suc i) m n (λ k a l. h k (omega arith) (omega arith)))
+
+  -- a front without any
+  pub those-front : (a m b : ℕ) → a ≤ m → m ≤ b → ((k : ℕ) → a ≤ k → k < m → p k ≡ false) → those a b p ≡ those m b p
+  unfolding those
+  those-front a m b l g h =
+      let e : b - a ≡ (m - a) + (b - m) = omega arith in
+      let s : a + (m - a) ≡ m = omega arith in
+      rw e (front-from a (m - a) (b - m) (λ k x y. h k x (omega arith)) ∙ ap (λ k. thoseFrom p k (b - m)) s)
+
+  in-from : (i n k : ℕ) → i ≤ k → k < i + n → p k ≡ true → In k (thoseFrom p i n)
+  unfolding thoseFrom
+  in-from i zero k l h t = absurd (omega arith)
+  in-from i (suc n) k l h t =
+      by-test (ltb i k)
+      (λ e. in-pick (p i) k i (thoseFrom p (suc i) n) (in-from (suc i) n k (ltb-true i k e) (omega arith) t))
+      (λ e.
+      let q : k ≡ i = omega (arith, ltb-false i k e) in
+      let s : p i ≡ true = ap p (sym q) ∙ t in
+      rw s (inl q))
+
+  -- a number of the range at which the test holds is among them
+  pub in-those : (a b k : ℕ) → a ≤ k → k < b → p k ≡ true → In k (those a b p)
+  unfolding those
+  in-those a b k l h t = in-from a (b - a) k l (omega arith) t
+
+  pub those-any : (i b : ℕ) → any (eqb i) (those 0 b p) ≡ (ltb i b && p i)
+  those-any i b =
+      same-test _ _
+      (λ e.
+      let f = any-find (eqb i) (those 0 b p) e in
+      let q : i ≡ f .0 = eqb-true i (f .0) (f .2) in
+      let r = those-in p 0 b (f .0) (f .1) in
+      and-both (ltb i b) (p i) (lt-ltb i b (omega (arith, r .1))) (ap p q ∙ r .2))
+      (λ e.
+      any-in (eqb i) (those 0 b p) i
+      (in-those 0 b i (omega arith) (ltb-true i b (and-left (ltb i b) (p i) e)) (and-right (ltb i b) (p i) e))
+      (eq-eqb i i refl))
+
+  length-from : (i n : ℕ) → length (thoseFrom p i n) ≤ n
+  unfolding thoseFrom
+  length-from i zero = omega arith
+  length-from i (suc n) = pick-length (p i) i n (thoseFrom p (suc i) n) (length-from (suc i) n)
+
+  pub length-those : (a b : ℕ) → length (those a b p) ≤ b - a
+  unfolding those
+  length-those a b = length-from a (b - a)
+
+module _ (p q : ℕ → Bool) where
+  ext-from : (i n : ℕ) → ((k : ℕ) → i ≤ k → k < i + n → p k ≡ q k) → thoseFrom p i n ≡ thoseFrom q i n
+  unfolding thoseFrom
+  ext-from i zero h = refl
+  ext-from i (suc n) h =
+      rw (h i (omega arith) (omega arith), ext-from (suc i) n (λ k u v. h k (omega arith) (omega arith))) refl
+
+  -- tests that agree
+  pub those-ext : (a b : ℕ) → ((k : ℕ) → a ≤ k → k < b → p k ≡ q k) → those a b p ≡ those a b q
+  unfolding those
+  those-ext a b h = ext-from a (b - a) (λ k x y. h k x (omega arith))
+
+  pick-kept : (s : Bool) (i : ℕ) (xs ys : List ℕ) → ys ≡ kept q xs → pick (s && q i) (i ∷ ys) ys ≡ kept q (pick s (i ∷ xs) xs)
+  unfolding kept
+  pick-kept true i xs ys e = rw e refl
+  pick-kept false i xs ys e = e
+
+  kept-from : (i n : ℕ) → thoseFrom (λ k. p k && q k) i n ≡ kept q (thoseFrom p i n)
+  unfolding thoseFrom kept
+  kept-from i zero = refl
+  kept-from i (suc n) = pick-kept (p i) i (thoseFrom p (suc i) n) (thoseFrom (λ k. p k && q k) (suc i) n) (kept-from (suc i) n)
+
+  -- where both tests hold: those of the one that the other keeps
+  pub those-kept : (a b : ℕ) → those a b (λ k. p k && q k) ≡ kept q (those a b p)
+  unfolding those
+  those-kept a b = kept-from a (b - a)

@@ -1,0 +1,88 @@
+-- The largest of some numbers, their sum, whether a test holds of one, and those at which it holds: of lists joined, and
+-- where no element is above m. Assumes nothing.
+use Prim.Native.Nat.{ℕ, _+_, _*_, _≤_, max, _<_}
+use mathlib.Core.Path.{_≡_, refl, ap}
+use mathlib.Core.Bool.{Bool, true, false, _||_, not, false≢true}
+use mathlib.Core.List.{List, [], _∷_, _++_}
+use mathlib.Core.Logic.{inl, inr}
+use native.Mathlib.Nat.{mul-suc}
+use native.Mathlib.Omega.{arith}
+use lib.ListN.{length}
+use Rattle.seqs.proofs.Tests.{by-test, or-left, or-right}
+use Rattle.seqs.specs.Lists.{In, pick, kept}
+use Rattle.seqs.specs.Sums.{largest, total, any}
+
+-- ---- the largest and the sum
+pub largest-append : (xs ys : List ℕ) → largest (xs ++ ys) ≡ max (largest xs) (largest ys)
+unfolding largest
+largest-append [] ys = omega arith
+largest-append (x ∷ xs) ys = rw (largest-append xs ys) (omega arith)
+
+pub total-append : (xs ys : List ℕ) → total (xs ++ ys) ≡ total xs + total ys
+unfolding total
+total-append [] ys = omega arith
+total-append (x ∷ xs) ys = rw (total-append xs ys) (omega arith)
+
+module _ (m : ℕ) where
+  pub largest-most : (xs : List ℕ) → ((x : ℕ) → In x xs → x ≤ m) → largest xs ≤ m
+  unfolding largest
+  largest-most [] h = omega arith
+  largest-most (x ∷ xs) h = omega (arith, h x (inl refl), largest-most xs (λ y i. h y (inr i)))
+
+  pub total-most : (xs : List ℕ) → ((x : ℕ) → In x xs → x ≤ m) → total xs ≤ m * length xs
+  unfolding total
+  total-most [] h = omega arith
+  total-most (x ∷ xs) h = rw mul-suc (omega (arith, h x (inl refl), total-most xs (λ y i. h y (inr i))))
+
+-- ---- a test
+or-assoc : (a b c : Bool) → (a || (b || c)) ≡ (a || b || c)
+or-assoc true b c = refl
+or-assoc false b c = refl
+
+pick-append : (t : Bool) (x : ℕ) (xs ys : List ℕ) → pick t (x ∷ xs ++ ys) (xs ++ ys) ≡ pick t (x ∷ xs) xs ++ ys
+pick-append true x xs ys = refl
+pick-append false x xs ys = refl
+
+pick-length : (t : Bool) (x : ℕ) (xs ys : List ℕ) → length xs ≤ length ys → length (pick t (x ∷ xs) xs) ≤ length (x ∷ ys)
+pick-length true x xs ys h = omega arith
+pick-length false x xs ys h = omega arith
+
+module _ (p : ℕ → Bool) where
+  pub any-append : (xs ys : List ℕ) → any p (xs ++ ys) ≡ (any p xs || any p ys)
+  unfolding any
+  any-append [] ys = refl
+  any-append (x ∷ xs) ys = rw (any-append xs ys) (or-assoc (p x) (any p xs) (any p ys))
+
+  pub kept-append : (xs ys : List ℕ) → kept p (xs ++ ys) ≡ kept p xs ++ kept p ys
+  unfolding kept
+  kept-append [] ys = refl
+  kept-append (x ∷ xs) ys = rw (kept-append xs ys) (pick-append (p x) x (kept p xs) (kept p ys))
+
+  -- where the test holds of all of them
+  pub kept-all : (xs : List ℕ) → ((x : ℕ) → In x xs → p x ≡ true) → kept p xs ≡ xs
+  unfolding kept
+  kept-all [] h = refl
+  kept-all (x ∷ xs) h = rw (h x (inl refl)) (ap (λ ys. x ∷ ys) (kept-all xs (λ y i. h y (inr i))))
+
+  pub kept-length : (xs : List ℕ) → length (kept p xs) ≤ length xs
+  unfolding kept
+  kept-length [] = omega arith
+  kept-length (x ∷ xs) = pick-length (p x) x (kept p xs) xs (kept-length xs)
+
+-- ---- a test of a list, and those kept by it
+pub none-kept : (p : ℕ → Bool) (xs : List ℕ) → any p xs ≡ false → length (kept p xs) ≡ 0
+unfolding any kept
+none-kept p [] e = refl
+none-kept p (x ∷ xs) e = let q = or-left (p x) (any p xs) e in rw q (none-kept p xs (or-right (p x) (any p xs) e))
+
+pub some-kept : (p : ℕ → Bool) (xs : List ℕ) → any p xs ≡ true → 0 < length (kept p xs)
+unfolding any kept
+some-kept p [] e = absurd (false≢true e)
+some-kept p (x ∷ xs) e = by-test (p x) (λ t. rw t (omega arith)) (λ t. rw t (some-kept p xs (rw t at e)))
+
+pub quiet-kept : (p : ℕ → Bool) (xs : List ℕ) → any p xs ≡ false → kept (λ x. not (p x)) xs ≡ xs
+unfolding any kept
+quiet-kept p [] e = refl
+quiet-kept p (x ∷ xs) e =
+    let q = or-left (p x) (any p xs) e in
+    rw q (ap (λ (r : List ℕ). x ∷ r) (quiet-kept p xs (or-right (p x) (any p xs) e)))
