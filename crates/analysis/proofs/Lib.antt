@@ -1,12 +1,3 @@
-pub mod Lined
-pub mod Latest
-pub mod Later
-pub mod Turned
-pub mod Scanned
-pub mod Parts
-pub mod Chained
-pub mod Rounded
-pub mod Going
 pub mod Outcomes
 pub mod Resulted
 pub mod Tabled

@@ -18,7 +18,7 @@ use Rattle.model.specs.Nodes.{EX, CM, node, nodes, entry}
 use Rattle.model.specs.Cycles.{start, finish}
 use Rattle.model.specs.Rounds.{earliest, windows, bound, roundCount, pairCount, apartCount}
 use Rattle.links.proofs.Ready.{highest-one, highest-EX}
-use Rattle.analysis.specs.Rows.{finishEX}
+use Rattle.rounds.specs.Rows.{finishEX}
 use Rattle.analysis.specs.Result.{headOf, resultHead, fourOf, resultTimes, resultEntries, resultBody, result}
 
 -- the eight bytes of instruction i, as the code has them: his has the highest latencies

@@ -12,8 +12,7 @@ use Rattle.record.proofs.Ranges.{ranges}
 use Rattle.model.specs.Nodes.{nodes, entry, source}
 use Rattle.model.specs.Rounds.{earliest, round, windows}
 use Rattle.model.proofs.Settled.{windows-settled}
-use Rattle.links.specs.Unpacked.{Shapes, code, Sources, Unpacked}
-use Rattle.links.specs.declared.Shape.{Shape}
+use Rattle.links.specs.Unpacked.{code, Sources}
 
 -- a list that begins with another
 front : (xs ys s : List ℕ) (n : ℕ) → length xs ≡ n → s ≡ xs ++ ys → (v : ℕ) → v < n → getD s v 0 ≡ getD xs v 0
@@ -32,13 +31,13 @@ module _ (b : Block) where
     pub few : b .n ≤ 60
     few = ranges b z .n .1
 
-    pub lo-column : (a : List ℕ) → ((i : ℕ) → i < 60 → getD a i 0 ≡ byteOf (entry b i) 1) → (i : ℕ) → i < b .n → getD a i 0 ≡ entry b i .lo
+    pub lo-column : (a : List ℕ) → ((i : ℕ) → i < b .n → getD a i 0 ≡ byteOf (entry b i) 1) → (i : ℕ) → i < b .n → getD a i 0 ≡ entry b i .lo
     unfolding entryBytes
-    lo-column a e i l = e i (omega (arith, few))
+    lo-column a e i l = e i l
 
-    pub hi-column : (a : List ℕ) → ((i : ℕ) → i < 60 → getD a i 0 ≡ byteOf (entry b i) 2) → (i : ℕ) → i < b .n → getD a i 0 ≡ entry b i .hi
+    pub hi-column : (a : List ℕ) → ((i : ℕ) → i < b .n → getD a i 0 ≡ byteOf (entry b i) 2) → (i : ℕ) → i < b .n → getD a i 0 ≡ entry b i .hi
     unfolding entryBytes
-    hi-column a e i l = e i (omega (arith, few))
+    hi-column a e i l = e i l
 
   pub sourced : (s1 s2 : List ℕ) → ((j : ℕ) → j < b .n → getD s1 j 0 ≡ code (source b (byteOf (entry b j) 4) j))
       → ((j : ℕ) → j < b .n → getD s2 j 0 ≡ code (source b (byteOf (entry b j) 5) j)) → Sources b s1 s2

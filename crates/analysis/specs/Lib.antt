@@ -1,4 +1,2 @@
 pub mod Result
 pub mod Promises
-pub mod Rows
-pub mod Steps

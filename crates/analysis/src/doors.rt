@@ -7,8 +7,6 @@ ghost use Rattle.record.specs.Refusals.{blockVerdict};
 ghost use Rattle.model.specs.Rounds.{windowTable};
 ghost use Rattle.analysis.specs.Result.{result};
 ghost use Rattle.analysis.specs.Promises.{Analyses, Tables};
-use crate::lines::earliest_into;
-use crate::rounds::refine;
 use crate::tables::put_result;
 use crate::tables::put_table;
 use record::Answer;
@@ -26,8 +24,8 @@ fn result_into(b: Block, out: &mut [u8])
     let s2 = links::sources(b, 5);
     let mut early = [0u16; 300];
     let mut late = [0u16; 300];
-    earliest_into(h, &lo, &s1, &s2, &mut early);
-    let counts = refine(b, &his, &s1, &s2, &early, &mut late);
+    rounds::earliest_into(h, &lo, &s1, &s2, &mut early);
+    let counts = rounds::refine(b, &his, &s1, &s2, &early, &mut late);
     put_result(b, &his, &early, &late, counts, out);
 }
 
@@ -42,8 +40,8 @@ fn table_into(b: Block, out: &mut [u16])
     let s2 = links::sources(b, 5);
     let mut early = [0u16; 300];
     let mut late = [0u16; 300];
-    earliest_into(h, &lo, &s1, &s2, &mut early);
-    refine(b, &his, &s1, &s2, &early, &mut late);
+    rounds::earliest_into(h, &lo, &s1, &s2, &mut early);
+    rounds::refine(b, &his, &s1, &s2, &early, &mut late);
     put_table(b, &lo, &his, &s1, &s2, &early, &late, out);
 }
 

@@ -1,17 +1,6 @@
-// The analysis of a block: its windows, its bound, its result record, its window table.
-mod contenders;
+// The analysis of a block: its result record and its window table.
 mod doors;
-mod lines;
-mod rivals;
-mod rounds;
 mod tables;
 
 pub use doors::analyse;
 pub use doors::windows;
-
-// What the rounds leave beside the windows.
-pub struct Counts {
-    pub rounds: usize,
-    pub pairs: usize,
-    pub apart: usize,
-}

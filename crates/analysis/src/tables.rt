@@ -1,22 +1,22 @@
 // The result record and the window table.
 ghost use mathlib.Core.Path.{_≡_};
-ghost use mathlib.Core.List.{List, [], _∷_, _++_};
+ghost use mathlib.Core.List.{[], _∷_, _++_};
 ghost use Prim.Native.Nat.{ℕ, _+_, _-_, _*_, _/_, _%_, _≤_, _<_};
 ghost use lib.ListN.{length, getD, drop, replicate};
 ghost use lib.Dec.{eqb, ltb};
 ghost use Rattle.seqs.specs.Lists.{pick, joined, put};
 ghost use Rattle.record.specs.Refusals.{blockVerdict};
-ghost use Rattle.model.specs.Nodes.{EX, CM, node, nodes, entry, highest};
+ghost use Rattle.model.specs.Nodes.{EX, CM, node, nodes, entry};
 ghost use Rattle.model.specs.Cycles.{start};
 ghost use Rattle.model.specs.Rounds.{earliest, windows, roundCount, pairCount, apartCount, windowTable};
 ghost use Rattle.links.specs.Unpacked.{Sources};
 ghost use Rattle.links.specs.Stages.{readyEX};
-ghost use Rattle.analysis.specs.Rows.{finishEX};
+ghost use Rattle.rounds.specs.Rows.{finishEX};
 ghost use Rattle.analysis.specs.Result.{headOf, fourOf, result};
-use crate::Counts;
-use crate::lines::finish_ex;
-use crate::lines::small;
 use record::Block;
+use rounds::Counts;
+use rounds::finish_ex;
+use rounds::small;
 
 fn low(x: u32) -> u8
     ensures { λ r. ⌜ r ≡ x % 256 ⌝ }

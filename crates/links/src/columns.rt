@@ -1,7 +1,7 @@
 // A block unpacked: header, columns, last writers.
 ghost use mathlib.Core.Path.{_≡_};
 ghost use Prim.Native.Nat.{ℕ, _≤_, _<_};
-ghost use lib.ListN.{length, getD};
+ghost use lib.ListN.{getD};
 ghost use Rattle.record.specs.Layout.{byteOf};
 ghost use Rattle.model.specs.Nodes.{entry, source};
 ghost use Rattle.links.specs.Unpacked.{Shapes, code};
@@ -38,13 +38,15 @@ fn byte_of(e: Entry, k: usize) -> u8
     }
 }
 
-// Byte k of each entry.
+// Byte k of each entry below n.
 pub fn column(b: Block, k: usize) -> [u8; 60]
     requires { ⌜ k ≤ 5 ⌝ }
-    ensures { λ r. ⌜ ((i : ℕ) → i < 60 → getD r i 0 ≡ byteOf (entry b i) k) ⌝ }
+    requires { ⌜ b .n ≤ 60 ⌝ }
+    ensures { λ r. ⌜ ((i : ℕ) → i < b .n → getD r i 0 ≡ byteOf (entry b i) k) ⌝ }
 {
+    let n = b.n as usize;
     let mut a = [0u8; 60];
-    for i in 0..60 {
+    for i in 0..n {
         let e = b.entries[i];
         a[i] = byte_of(e, k);
     }

@@ -1,7 +1,7 @@
 // The ready time of each stage, from the starts of the nodes before it.
 ghost use mathlib.Core.Path.{_≡_};
-ghost use Prim.Native.Nat.{ℕ, _+_, _*_, _%_, _≤_, _<_, max};
-ghost use lib.ListN.{length, getD};
+ghost use Prim.Native.Nat.{_+_, _*_, _%_, _≤_, _<_, max};
+ghost use lib.ListN.{length};
 ghost use Rattle.links.specs.Stages.{finishBack, startBack, finishSource, readyIF, readyID, readyEX, readyCM};
 use crate::Shape;
 

@@ -14,7 +14,7 @@ use native.Mathlib.Omega.{arith}
 use lib.ListN.{getD}
 use lib.Dec.{leb, eqb}
 use borrow.Author.Tests.{eqb-true, eq-eqb, ne-eqb, le-leb, leb-true, leb-false}
-use Rattle.seqs.specs.Lists.{In, Every, tab, inOrder}
+use Rattle.seqs.specs.Lists.{In, Every, tab}
 use Rattle.seqs.specs.Sums.{any}
 use Rattle.seqs.proofs.Tests.{by-test, or-cases, or-first, or-second, same-test}
 use Rattle.seqs.proofs.Members.{in-split, in-left, in-right, _▸_, every, any-find, any-in, any-ext}
@@ -25,6 +25,7 @@ use Rattle.record.proofs.Ranges.{Ranges}
 use Rattle.model.specs.Nodes.{ID, EX, WB, CM, node, stage, instruction, entry, Edges, edges, finishEdges, orderEdges, sources, finishInto, orderInto}
 use Rattle.model.specs.Paths.{edgesInto, Path, Pairs, has, paths, contend, contending}
 use Rattle.model.specs.Paths.Path.{edge, on}
+use Rattle.model.specs.Registers.{chains}
 use Rattle.model.proofs.Predecessors.{Leads, into-leads, Sourced, finish-cases, finish-on, source-on, edge-on, sources-before}
 use Rattle.model.proofs.Reached.{path-up, paths-path, path-paths, contending-at, contending-contends}
 
@@ -187,10 +188,7 @@ module _ (b : Block) where
       let e : i + b .w + (j - (i + b .w)) ≡ j = omega arith in
       on (subst (λ (x : ℕ). Path b (node EX i) (node ID x)) e (to-ID (j - (i + b .w)) i)) (ID-EX j)
 
--- ---- the chains as a table, worked out in order: row j tells from which i a chain leads to j
-unfoldable pub chains : Block → Pairs
-chains b = inOrder (λ before j. tab (b .n) (λ i. any (λ a. eqb a i || has before a i) (sources b j))) (b .n)
-
+-- ---- the chains as a table
 module _ (b : Block) where
   -- a is i, or a chain leads from i to it
   abbrev from-i : ℕ → ℕ → Bool

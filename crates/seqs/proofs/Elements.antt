@@ -1,6 +1,6 @@
 -- A claim of each element of a list of numbers, and of 0, which stands where there is none: what it says of parts of the
 -- list, of lists joined, and after a store. Assumes nothing.
-use Prim.Native.Nat.{ℕ, zero, suc, _+_, _≤_, _<_}
+use Prim.Native.Nat.{ℕ, zero, suc, _+_, _<_}
 use mathlib.Core.Path.{_≡_, refl}
 use mathlib.Core.List.{List, [], _∷_, _++_}
 use mathlib.Core.Logic.{inl, inr}

@@ -6,6 +6,12 @@ use native.Mathlib.Omega.{arith}
 use Rattle.analysis.proofs.doors.result_into.Statement.{statement}
 use Rattle.analysis.proofs.doors.result_into.Tie as tie
 
+column-requires : tie.Need-column-requires
+column-requires c κs = let x = c .before .before in (search needs, few (x .args .b) (x .pre .0))
+
+column-requires-2 : tie.Need-column-requires-2
+column-requires-2 c κs = let x = c .before .before .before in (search needs, few (x .args .b) (x .pre .0))
+
 sources-requires : tie.Need-sources-requires
 sources-requires c κs = let x = c .before .before .before .before in (search needs, few (x .args .b) (x .pre .0))
 
@@ -63,7 +69,7 @@ put-result-requires c κs =
 pub result-into-spec : {M : Type 1} → statement M
 result-into-spec =
     tie.close
-    (tie.spec (λ c κs. search needs) (λ c κs. search needs) (λ c κs. search needs) sources-requires sources-requires-2
+    (tie.spec (λ c κs. search needs) column-requires column-requires-2 sources-requires sources-requires-2
     (λ c. search needs) (λ c. search needs) (λ c. search needs) (λ c. search needs) earliest-into-requires
     (λ c. search needs) (λ c. search needs) (λ c. search needs) (λ c. search needs) (λ c. search needs)
     refine-requires slice-aggregate-put-result (λ c. search needs) (λ c. search needs) put-result-requires

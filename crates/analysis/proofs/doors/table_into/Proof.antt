@@ -6,6 +6,12 @@ use native.Mathlib.Omega.{arith}
 use Rattle.analysis.proofs.doors.table_into.Statement.{statement}
 use Rattle.analysis.proofs.doors.table_into.Tie as tie
 
+column-requires : tie.Need-column-requires
+column-requires c κs = let x = c .before .before in (search needs, few (x .args .b) (x .pre .0))
+
+column-requires-2 : tie.Need-column-requires-2
+column-requires-2 c κs = let x = c .before .before .before in (search needs, few (x .args .b) (x .pre .0))
+
 sources-requires : tie.Need-sources-requires
 sources-requires c κs = let x = c .before .before .before .before in (search needs, few (x .args .b) (x .pre .0))
 
@@ -67,7 +73,7 @@ put-table-requires c κs =
 pub table-into-spec : {M : Type 1} → statement M
 table-into-spec =
     tie.close
-    (tie.spec (λ c κs. search needs) (λ c κs. search needs) (λ c κs. search needs) sources-requires sources-requires-2
+    (tie.spec (λ c κs. search needs) column-requires column-requires-2 sources-requires sources-requires-2
     (λ c. search needs) (λ c. search needs) (λ c. search needs) (λ c. search needs) earliest-into-requires
     (λ c. search needs) (λ c. search needs) (λ c. search needs) (λ c. search needs) (λ c. search needs)
     refine-requires slice-aggregate-put-table slice-aggregate-put-table-2 (λ c. search needs) (λ c. search needs)

@@ -1,0 +1,9 @@
+pub mod Lined
+pub mod Latest
+pub mod Later
+pub mod Turned
+pub mod Scanned
+pub mod Parts
+pub mod Chained
+pub mod Rounded
+pub mod Going

@@ -1,0 +1,41 @@
+-- `rounds::rivals::pairs_of` meets its contract: the sum of those passed, none above 60. Assumes nothing.
+use mathlib.Core.Path.{_≡_, refl}
+use Prim.Native.Nat.{_≤_, _-_, _*_}
+use native.Mathlib.Omega.{arith}
+use lib.ListN.{take}
+use Rattle.seqs.specs.Sums.{total}
+use Rattle.seqs.proofs.Fronts.{total-more}
+use borrow.Author.Needs.{needs}
+use Rattle.rounds.proofs.rivals.pairs_of.Statement.{statement}
+use Rattle.rounds.proofs.rivals.pairs_of.Tie as tie
+
+abbrev Inv-loop : tie.InvT-loop
+Inv-loop n count sum₀ j₀ sum j = (j ≤ n) × (sum ≡ total (take j count)) × (sum ≤ 60 * j)
+
+abbrev μ-loop : tie.MeasureT-loop
+μ-loop n count sum₀ j₀ sum j = n - j
+
+loop-holds : tie.Need-loop-holds Inv-loop μ-loop
+unfolding total
+loop-holds c = (search needs, refl, search needs)
+
+add-sum : tie.Need-add-sum Inv-loop μ-loop
+add-sum c = record { fits = omega (arith, c .before .before .before .pre .2 (c .before .before .loop .j), c .before .before .loop .inv .2) }
+
+loop-again : tie.Need-loop-again Inv-loop μ-loop
+loop-again c =
+    let t = c .before .before .loop in
+    let x = c .before .before .before .args in
+    (search needs, omega (arith, total-more (x .count .now) (t .j) (search needs), t .inv .1), omega (arith, c .before .before .before .pre .2 (t .j), t .inv .2))
+
+returns : tie.Need-returns Inv-loop μ-loop
+returns c =
+    let t = c .before .loop in
+    let e : t .j ≡ c .before .before .args .n = search needs in
+    (rw (← e) (t .inv .1), search needs)
+
+pub pairs-of-spec : {M : Type 1} → statement M
+pairs-of-spec =
+    tie.close
+    (tie.spec Inv-loop μ-loop loop-holds (λ c. search needs) (λ c. search needs) add-sum (λ c. search needs)
+    (λ c. search needs) loop-again returns)
