@@ -56,6 +56,106 @@ def verdict(s, tests=(1, 2, 3, 4, 5)):
     return 0, 0
 
 
+# ---- the analysis: nodes are numbered by instruction, then stage
+IF, ID, EX, WB, CM = range(5)
+
+
+def edges(b):
+    """The finish edges and the order edges, from each node up."""
+    n, q, w, f, d, c = b['head'][:6]
+    finish, order = [], []
+
+    def edge(edges, g, i, h, j):
+        if j < n:
+            edges.append((5 * i + g, 5 * j + h))
+
+    for i in range(n):
+        for g in (IF, ID, EX, WB):
+            edge(finish, g, i, g + 1, i)
+        edge(finish, ID, i, IF, i + q)
+        edge(finish, CM, i, ID, i + w)
+        for g, width in ((IF, f), (ID, d), (CM, c)):
+            edge(finish, g, i, g, i + width)
+            edge(order, g, i, g, i + 1)
+        for r in b['entries'][i][4:6]:
+            writers = [k for k in range(i) if r != 255 and b['entries'][k][3] == r]
+            if writers:
+                edge(finish, WB, writers[-1], EX, i)
+    return finish, order
+
+
+def reached(n, links):
+    """For each node those that a path leads to: edges lead up, so the last nodes come first."""
+    after = [{w for u, w in links if u == v} for v in range(5 * n)]
+    for v in reversed(range(5 * n)):
+        for w in list(after[v]):
+            after[v] |= after[w]
+    return after
+
+
+def contending(b, links):
+    n, kinds, after = b['head'][0], [e[0] for e in b['entries']], reached(b['head'][0], links)
+    return {(i, j) for j in range(n) for i in range(j)
+            if kinds[i] == kinds[j] and 5 * j + EX not in after[5 * i + EX] and 5 * i + EX not in after[5 * j + EX]}
+
+
+def timed(n, finish, order, begin, latency):
+    """Ready, start and finish of each node: begin gives its start from its ready time and the times before it."""
+    times = []
+    for v in range(5 * n):
+        ready = max([0] + [times[u][2] for u, w in finish if w == v] + [times[u][1] for u, w in order if w == v])
+        start = begin(v, ready, times)
+        times.append((ready, start, start + latency(v)))
+    return times
+
+
+def analysed(b):
+    """The earliest and the latest times, and rounds, contending pairs, pairs apart."""
+    n, entries = b['head'][0], b['entries']
+    finish, order = edges(b)
+    pairs = contending(b, finish + order)
+    lowest = lambda v: entries[v // 5][1] if v % 5 == EX else 1
+    highest = lambda v: entries[v // 5][2] if v % 5 == EX else 1
+    early = timed(n, finish, order, lambda v, ready, times: ready, lowest)
+    apart, rounds = set(), 0
+
+    def latest(v, ready, times):
+        if v % 5 != EX:
+            return ready
+        x = v // 5
+        earlier = [i for i, j in pairs - apart if j == x]
+        later = [j for i, j in pairs - apart if i == x]
+        most = ready + max(entries[j][2] for j in later) - 1 if later else ready
+        if not earlier:
+            return most
+        return min(most + sum(entries[i][2] for i in earlier), max(most, max(times[5 * i + EX][2] for i in earlier)))
+
+    while True:
+        rounds += 1
+        late = timed(n, finish, order, latest, highest)
+        found = {(i, j) for i, j in pairs - apart
+                 if late[5 * i + EX][2] <= early[5 * j + EX][0] or late[5 * j + EX][2] <= early[5 * i + EX][0]}
+        if not found:
+            return early, late, rounds, len(pairs), len(apart)
+        apart |= found
+
+
+def result(b):
+    early, late, rounds, pairs, apart = analysed(b)
+    n = b['head'][0]
+    s = list(b'RES1') + [n, b['head'][6]]
+    s += list(struct.pack('<HIHHH', late[-1][2], b['number'], rounds, pairs, apart)) + [0] * 10
+    for i in range(n):
+        v, w = 5 * i + EX, 5 * i + CM
+        s += list(struct.pack('<HHHH', early[v][1], late[v][1], late[v][2], late[w][2]))
+    return sealed(s + [0] * (512 - len(s)))
+
+
+def table(b):
+    early, late = analysed(b)[:2]
+    return [x for e, l in zip(early, late) for x in e + l]
+
+
 # ---- made blocks, as the trial makes them
 def following(x):
     return (x % 2147483648 * 1103515245 + 12345) % 2147483648
@@ -91,6 +191,23 @@ def block(x):
         y = chain(y, 6)[-1]
     head = [n] + [1 + drawn(z) % m for z, m in zip(xs[1:7], (16, 32, 4, 4, 4, 2))]
     return dict(head=head, number=xs[7] % 65536 * 65536 + xs[8] % 65536, entries=entries)
+
+
+def crowded(n, x):
+    b = block(x)
+    y, z = chain(b['number'], 1)
+    xs = chain(y, 2)
+    kind, latency, top = drawn(xs[0]) % 4, (2, 5, 254)[drawn(xs[1]) % 3], 1 + drawn(xs[2]) % 31
+    entries = []
+    for i in range(60):
+        xs = chain(z, 6)
+        latencies = sorted(1 + drawn(u) % (1 + latency) for u in xs[1:3])
+        registers = [drawn(u) % (1 + top) or 255 for u in xs[3:6]]
+        entries.append([drawn(xs[0]) % (1 + kind)] + latencies + registers if i < n else [0] * 6)
+        z = xs[6]
+    b['head'][0] = n
+    b['entries'] = entries
+    return b
 
 
 def spoiled(b, x):
@@ -180,6 +297,77 @@ def trips():
     tally(given)
 
 
+def numbers(b):
+    s = result(b)
+    bound, rounds, pairs, apart = struct.unpack('<HxxxxHHH', bytes(s[6:18]))
+    return '  bound %d rounds %d pairs %d apart %d' % (bound, rounds, pairs, apart)
+
+
+def worked():
+    """Blocks A to I: kind, lo, hi, register written, register read of each entry."""
+    def line(name, *given, w=8, width=1):
+        entries = [list(e) + [255] for e in given] + [[0] * 6] * (60 - len(given))
+        print(name + numbers(dict(head=[len(given), 4, w, width, width, width, 1], number=1, entries=entries)))
+
+    one, four, none = (0, 1, 1, 255, 255), (1, 1, 4, 255, 255), 255
+    line('A', one)
+    line('B', four)
+    line('C', four, four)
+    line('D', (1, 1, 4, 1, none), (1, 1, 4, none, 1))
+    line('E', (0, 1, 4, 1, none), (1, 4, 4, none, 1), (1, 4, 4, 2, none), (2, 12, 12, none, 2))
+    line('F', (1, 1, 1, none, none), one, one, (1, 1, 3, none, none))
+    line('G', one, one, width=2)
+    line('H', one, one, w=1)
+    for name, x in (('I', 2), ('I, last [8,8]', 8), ('I, last [9,9]', 9)):
+        line(name, (0, 10, 10, 1, none), (1, 1, 1, none, 1), (1, x, x, none, none))
+
+
+def windows():
+    x = 3
+    for n in range(1, 61):
+        print('n %d%s' % (n, numbers(crowded(n, x))))
+        x = following(x)
+    x, total = 4, 0
+    for k in range(300):
+        b = crowded(1 + k % 60, x)
+        t = table(b)
+        for v in result(b) + t + [43690] * (1800 - len(t)):
+            total = (total * 65599 + v) % 4294967291
+        x = following(x)
+    print('crowded blocks 300\n  sum over result records and window tables %d' % total)
+
+
+def doors():
+    def analyse(b, n, given=None):
+        v = given or ((0, 0) if n == 512 else (6, 0))
+        print('analyse to %d bytes%s %s' % (n, said(v), 'written' if v == (0, 0) else 'untouched'))
+
+    def windows(b, n, given=None):
+        v = given or ((0, 0) if 30 * b['head'][0] <= n else (6, 0))
+        print('windows to %d numbers%s %s' % (n, said(v), 'written' if v == (0, 0) else 'untouched'))
+
+    b, full, many, low = crowded(7, 5), crowded(60, 6), crowded(60, 7), crowded(9, 8)
+    many['head'][0] = 61
+    low['entries'][4][1:3] = 200, 199
+    for n in (0, 511, 512, 513):
+        analyse(b, n)
+    for n in (0, 209, 210, 211, 1900):
+        windows(b, n)
+    windows(full, 1799)
+    windows(full, 1800)
+    v = verdict(encoded(many), (4, 5))
+    analyse(many, 512, v)
+    windows(many, 1900, v)
+    analyse(many, 511, v)
+    v = verdict(encoded(low), (4, 5))
+    analyse(low, 512, v)
+    windows(low, 1900, v)
+    windows(low, 0, v)
+
+
 vectors()
 changes()
 trips()
+worked()
+windows()
+doors()

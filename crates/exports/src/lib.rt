@@ -2,7 +2,8 @@
 ghost use mathlib.Core.Path.{_≡_};
 ghost use lib.ListN.{getD};
 ghost use Rattle.record.specs.Layout.{noEntry};
-ghost use Rattle.record.specs.Refusals.{meaning, readBlock, writeVerdict, written};
+ghost use Rattle.record.specs.Refusals.{meaning, verdict, readBlock, writeVerdict, written};
+ghost use Rattle.analysis.specs.Result.{analyseTests, analysed};
 use record::Answer;
 
 fn number(a: Answer) -> u8
@@ -32,4 +33,14 @@ pub extern "C" fn bench_recode(s: &[u8], out: &mut [u8]) -> u8
     let r = record::read(s);
     let b = r.block;
     number(record::write(b, out))
+}
+
+// Reads a record and writes the result record of what it read, with the number of the analysis' answer.
+#[no_mangle]
+pub extern "C" fn bench_analyse(s: &[u8], out: &mut [u8]) -> u8
+    ensures { λ r. ⌜ (r ≡ verdict (analyseTests (readBlock (now (s .entry))) (now (out .entry))) .0) × (now (out .exit) ≡ analysed (readBlock (now (s .entry))) (now (out .entry))) ⌝ }
+{
+    let r = record::read(s);
+    let b = r.block;
+    number(analysis::analyse(b, out))
 }

@@ -7,7 +7,6 @@ use mathlib.Core.List.{List, [], _∷_, _++_}
 use mathlib.Core.Logic.{inl, inr}
 use native.Mathlib.Nat.{add-zero, zero-add, suc-add, add-suc}
 use native.Mathlib.Omega.{arith}
-use lib.ListN.{length}
 use lib.Dec.{ltb, eqb}
 use borrow.Author.Tests.{ltb-true, ltb-false, lt-ltb, eqb-true, eq-eqb}
 use Rattle.seqs.specs.Lists.{In, pick, those, thoseFrom, kept}
@@ -23,10 +22,6 @@ pick-append false i xs ys zs e = e
 in-pick : (t : Bool) (k i : ℕ) (xs : List ℕ) → In k xs → In k (pick t (i ∷ xs) xs)
 in-pick true k i xs h = inr h
 in-pick false k i xs h = h
-
-pick-length : (t : Bool) (i n : ℕ) (xs : List ℕ) → length xs ≤ n → length (pick t (i ∷ xs) xs) ≤ suc n
-pick-length true i n xs h = omega arith
-pick-length false i n xs h = omega arith
 
 module _ (p : ℕ → Bool) where
   more-from : (i n : ℕ) → thoseFrom p i (suc n) ≡ thoseFrom p i n ++ pick (p (i + n)) ((i + n) ∷ []) []
@@ -91,15 +86,6 @@ module _ (p : ℕ → Bool) where
       any-in (eqb i) (those 0 b p) i
       (in-those 0 b i (omega arith) (ltb-true i b (and-left (ltb i b) (p i) e)) (and-right (ltb i b) (p i) e))
       (eq-eqb i i refl))
-
-  length-from : (i n : ℕ) → length (thoseFrom p i n) ≤ n
-  unfolding thoseFrom
-  length-from i zero = omega arith
-  length-from i (suc n) = pick-length (p i) i n (thoseFrom p (suc i) n) (length-from (suc i) n)
-
-  pub length-those : (a b : ℕ) → length (those a b p) ≤ b - a
-  unfolding those
-  length-those a b = length-from a (b - a)
 
 module _ (p q : ℕ → Bool) where
   ext-from : (i n : ℕ) → ((k : ℕ) → i ≤ k → k < i + n → p k ≡ q k) → thoseFrom p i n ≡ thoseFrom q i n

@@ -1,5 +1,5 @@
--- The largest of some numbers, their sum, whether a test holds of one, and those at which it holds: of lists joined, and
--- where no element is above m. Assumes nothing.
+-- The largest of some numbers, their sum, whether a test holds of one, and those at which it holds: of lists joined, where no
+-- element is above m, and where the test holds of none or of one. Assumes nothing.
 use Prim.Native.Nat.{ℕ, _+_, _*_, _≤_, max, _<_}
 use mathlib.Core.Path.{_≡_, refl, ap}
 use mathlib.Core.Bool.{Bool, true, false, _||_, not, false≢true}
@@ -43,10 +43,6 @@ pick-append : (t : Bool) (x : ℕ) (xs ys : List ℕ) → pick t (x ∷ xs ++ ys
 pick-append true x xs ys = refl
 pick-append false x xs ys = refl
 
-pick-length : (t : Bool) (x : ℕ) (xs ys : List ℕ) → length xs ≤ length ys → length (pick t (x ∷ xs) xs) ≤ length (x ∷ ys)
-pick-length true x xs ys h = omega arith
-pick-length false x xs ys h = omega arith
-
 module _ (p : ℕ → Bool) where
   pub any-append : (xs ys : List ℕ) → any p (xs ++ ys) ≡ (any p xs || any p ys)
   unfolding any
@@ -57,17 +53,6 @@ module _ (p : ℕ → Bool) where
   unfolding kept
   kept-append [] ys = refl
   kept-append (x ∷ xs) ys = rw (kept-append xs ys) (pick-append (p x) x (kept p xs) (kept p ys))
-
-  -- where the test holds of all of them
-  pub kept-all : (xs : List ℕ) → ((x : ℕ) → In x xs → p x ≡ true) → kept p xs ≡ xs
-  unfolding kept
-  kept-all [] h = refl
-  kept-all (x ∷ xs) h = rw (h x (inl refl)) (ap (λ ys. x ∷ ys) (kept-all xs (λ y i. h y (inr i))))
-
-  pub kept-length : (xs : List ℕ) → length (kept p xs) ≤ length xs
-  unfolding kept
-  kept-length [] = omega arith
-  kept-length (x ∷ xs) = pick-length (p x) x (kept p xs) xs (kept-length xs)
 
 -- ---- a test of a list, and those kept by it
 pub none-kept : (p : ℕ → Bool) (xs : List ℕ) → any p xs ≡ false → length (kept p xs) ≡ 0

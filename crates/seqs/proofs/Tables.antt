@@ -1,9 +1,8 @@
 -- Tables by index, and the loop that fills one from the front. Assumes nothing.
 use mathlib.Core.Path.{_≡_, refl, sym, ap, _∙_}
-use mathlib.Core.List.{List, [], _∷_, _++_, map}
+use mathlib.Core.List.{List, map}
 use Prim.Native.Nat.{ℕ, zero, suc, _+_, _<_}
 use native.Mathlib.Nat.{add-zero, zero-add, add-suc, suc-add, le-of-suc-le-suc, not-suc-le-zero}
-use native.Mathlib.Numerals.{add-one}
 use native.Mathlib.Omega.{arith}
 use lib.ListN.{length, getD, set, length-map}
 use lib.Seq.{ext-getD, getD-set-same, getD-set-other}
@@ -34,16 +33,6 @@ pub is-tab : {A : Type 0} (n : ℕ) (f : ℕ → A) (d : A) (l : List A) → len
 is-tab n f d l e h =
     ext-getD d l (tab n f) (e ∙ sym (length-tab n f))
     (λ k p. let q : k < n = omega (arith, e) in h k q ∙ sym (getD-tab n f k d q))
-
-more-from : {A : Type 0} (f : ℕ → A) (i n : ℕ) → tabFrom f i (suc n) ≡ tabFrom f i n ++ (f (i + n) ∷ [])
-unfolding tabFrom
-more-from f i zero = rw add-zero refl
-more-from f i (suc n) = ap (λ xs. f i ∷ xs) (more-from f (suc i) n ∙ ap (λ k. tabFrom f (suc i) n ++ (f k ∷ [])) (suc-add i n ∙ sym (add-suc i n)))
-
--- one element more
-pub tab-more : {A : Type 0} (n : ℕ) (f : ℕ → A) → tab (n + 1) f ≡ tab n f ++ (f n ∷ [])
-unfolding tab
-tab-more n f = rw add-one (more-from f 0 n ∙ ap (λ k. tabFrom f 0 n ++ (f k ∷ [])) (zero-add n))
 
 -- one store more, where each element below i is the table's
 pub store-more : {A : Type 0} (l : List A) (i : ℕ) (v d : A) (f : ℕ → A) → i < length l → ((j : ℕ) → j < i → getD l j d ≡ f j) → v ≡ f i → (j : ℕ) → j < i + 1 → getD (set l i v) j d ≡ f j

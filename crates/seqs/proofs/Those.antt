@@ -1,5 +1,5 @@
--- Those numbers of a range at which a test holds: how many, where the test is parted in two, and what each of them is.
--- Assumes nothing.
+-- Those numbers of a range at which a test holds: how many, where the test is parted in two, and what each of them is; and
+-- sums over a table. Assumes nothing.
 use Prim.Native.Nat.{ℕ, zero, suc, _+_, _-_, _≤_, _<_}
 use mathlib.Core.Path.{_≡_, refl, ap, _∙_}
 use mathlib.Core.Bool.{Bool, true, false}

@@ -25,11 +25,11 @@ fn register(x: u64) -> u8 {
     if r < 64 { r } else { 255 }
 }
 
-fn smaller(a: u8, b: u8) -> u8 {
+pub fn smaller(a: u8, b: u8) -> u8 {
     if a < b { a } else { b }
 }
 
-fn larger(a: u8, b: u8) -> u8 {
+pub fn larger(a: u8, b: u8) -> u8 {
     if a < b { b } else { a }
 }
 

@@ -1,9 +1,11 @@
 -- `analysis::tables::put_table` meets its contract: the nodes passed have their six numbers, and the rest is as it was. Assumes nothing.
 use mathlib.Core.Path.{_≡_, refl, _∙_}
-use Prim.Native.Nat.{_*_, _≤_, _-_}
+use mathlib.Core.List.{[], _∷_}
+use Prim.Native.Nat.{_+_, _*_, _%_, _≤_, _-_}
 use native.Mathlib.Omega.{arith}
-use lib.ListN.{length}
+use lib.ListN.{length, getD}
 use Rattle.record.proofs.Ranges.{ranges}
+use Rattle.seqs.specs.Lists.{put}
 use Rattle.analysis.proofs.Tabled.{tableIn, table-none, table-more, table-all}
 use borrow.Author.Needs.{needs}
 use Rattle.analysis.proofs.tables.put_table.Statement.{statement}
@@ -34,19 +36,18 @@ latest-ready-requires c κs = let y = c .before .before .before .before .before 
 loop-again : tie.Need-loop-again Inv-loop μ-loop
 loop-again c =
     let t = c .before .before .before .before .before .before .before .before .before .before .before .before .before .before .loop in
-    let a = c .before .before .before .before .before .before .before .before .before .before .before .before .before .before .before .before .before .before .before .before .before .before .before .args in (
+    let a = c .before .before .before .before .before .before .before .before .before .before .before .before .before .before .before .before .before .before .before .before .before .before .before .args in
+    let r = c .before .before .before .before .before .before .before .before .before .before .latest-ready in
+    let x = c .before .before .before .before .before .before .before .before .latency-of in
+    let y = c .before .before .before .before .before .before .latency-of2 in
+    let e = getD (a .early .now) (t .v) 0 in
+    let l = getD (a .late .now) (t .v) 0 in
+    let six : _ ≡ put (t .out) (6 * t .v) (e ∷ e ∷ (e + x .result) % 65536 ∷ r .result % 65536 ∷ l ∷ (l + y .result) % 65536 ∷ []) = c .before .before .put-six .ensures in (
       search needs,
       search needs,
       search needs,
       search needs,
-      c .before .before .put-six .ensures
-          ∙ rw (
-            c .before .before .before .before .before .before .before .before .before .before .latest-ready .ensures .0,
-            c .before .before .before .before .before .before .before .before .latency-of .ensures .0,
-            c .before .before .before .before .before .before .latency-of2 .ensures .0,
-            t .inv .4,
-          )
-          (table-more (a .lo .now) (a .his .now) (a .s1 .now) (a .s2 .now) (a .early .now) (a .late .now) (a .out .now) (t .v)),
+      six ∙ rw (r .ensures .0, x .ensures .0, y .ensures .0, t .inv .4) (table-more (a .lo .now) (a .his .now) (a .s1 .now) (a .s2 .now) (a .early .now) (a .late .now) (a .out .now) (t .v)),
     )
 
 returns : tie.Need-returns Inv-loop μ-loop

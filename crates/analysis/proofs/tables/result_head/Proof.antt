@@ -1,5 +1,6 @@
 -- `analysis::tables::result_head` meets its contract. Assumes nothing.
-use mathlib.Core.Path.{refl}
+use mathlib.Core.Path.{_≡_, refl}
+use Prim.Native.Nat.{_%_}
 use Rattle.seqs.specs.Bytes.{bytes}
 use Rattle.analysis.specs.Result.{headOf}
 use borrow.Author.Needs.{needs}
@@ -9,6 +10,9 @@ use Rattle.analysis.proofs.tables.result_head.Tie as tie
 returns : tie.Need-returns
 unfolding headOf bytes
 returns c =
+    let n = c .before .before .before .before .before .before .before .before .before .before .before .before .before .before .before .args .counts in
+    let pairs : c .before .before .before .low5 .result ≡ n .pairs % 256 = c .before .before .before .low5 .ensures in
+    let apart : c .before .low6 .result ≡ n .apart % 256 = c .before .low6 .ensures in
     rw (
       c .before .before .before .before .before .before .before .before .before .before .before .low .ensures,
       c .before .before .before .before .before .before .before .before .before .before .high .ensures,
@@ -18,9 +22,9 @@ returns c =
       c .before .before .before .before .before .before .high3 .ensures,
       c .before .before .before .before .before .low4 .ensures,
       c .before .before .before .before .high4 .ensures,
-      c .before .before .before .low5 .ensures,
+      pairs,
       c .before .before .high5 .ensures,
-      c .before .low6 .ensures,
+      apart,
       c .high6 .ensures,
     )
     refl

@@ -38,7 +38,7 @@ loop-again c =
     = m .ensures .0 ∙ rw e refl in (
       t .inv .0,
       omega arith,
-      search needs,
+      omega arith,
       omega (arith, m .ensures .1),
       simp length-set (search needs),
       rw counted (those-store _ (t .row) _ (t .i) (t .len) (search needs) (search needs) (t .inv .5)),
