@@ -1,7 +1,7 @@
 // The rounds.
 ghost use mathlib.Core.Path.{_≡_};
 ghost use mathlib.Core.List.{_++_};
-ghost use Prim.Native.Nat.{ℕ, _+_, _≤_, _<_};
+ghost use Prim.Native.Nat.{ℕ, _+_, _-_, _≤_, _<_};
 ghost use lib.ListN.{length, getD, drop};
 ghost use Rattle.record.specs.Refusals.{blockVerdict};
 ghost use Rattle.model.specs.Nodes.{entry, nodes};
@@ -50,6 +50,12 @@ fn rounds_of(
     rounds
 }
 
+fn less(a: usize, b: usize) -> usize
+    ensures { λ r. ⌜ r ≡ a - b ⌝ }
+{
+    if b < a { a - b } else { 0 }
+}
+
 // The windows of a block whose earliest starts are known: late goes as the latest starts.
 pub fn refine(b: Block, his: &[u8], s1: &[u8], s2: &[u8], early: &[u16], late: &mut [u16]) -> Counts
     requires { ⌜ (blockVerdict b ≡ (0, 0)) × Sources b (now s1) (now s2) × ((i : ℕ) → i < b .n → getD (now his) i 0 ≡ entry b i .hi) ⌝ }
@@ -70,6 +76,6 @@ pub fn refine(b: Block, his: &[u8], s1: &[u8], s2: &[u8], early: &[u16], late: &
     Counts {
         rounds,
         pairs,
-        apart: pairs - left,
+        apart: less(pairs, left),
     }
 }

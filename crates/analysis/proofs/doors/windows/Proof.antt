@@ -1,5 +1,8 @@
 -- `analysis::doors::windows` meets its contract. Assumes nothing.
 use mathlib.Core.Path.{ap, sym, _∙_}
+use Prim.Native.Nat.{_*_, _<_}
+use native.Mathlib.Omega.{arith}
+use lib.ListN.{length}
 use Rattle.record.specs.Refusals.{meaning}
 use Rattle.analysis.proofs.Outcomes.{windows-refused, windows-output, windows-done}
 use borrow.Author.Needs.{needs}
@@ -7,7 +10,10 @@ use Rattle.analysis.proofs.doors.windows.Statement.{statement}
 use Rattle.analysis.proofs.doors.windows.Tie as tie
 
 returns : tie.Need-returns
-returns c = windows-output _ _ (sym (ap meaning (sym (c .before .before .enum-told2 .given .1)) ∙ c .before .before .before .before .block-answer .ensures)) (c .if1 .taken)
+returns c =
+    let x = c .before .before .before .before .before .before .args in
+    let short : length (x .out .now) < 30 * x .b .n = omega (arith, c .if1 .taken) in
+    windows-output (x .b) (x .out .now) (sym (ap meaning (sym (c .before .before .enum-told2 .given .1)) ∙ c .before .before .before .before .block-answer .ensures)) short
 
 table-into-requires : tie.Need-table-into-requires
 table-into-requires c κs =

@@ -60,43 +60,25 @@ pairs-of-requires-2 c κs =
     let A = ranges (c .before .before .before .before .before .before .before .before .before .before .before .before .before .before .before .before .before .before .before .before .before .before .before .before .args .b) (c .before .before .before .before .before .before .before .before .before .before .before .before .before .before .before .before .before .before .before .before .before .before .before .before .pre .0 .0) in
     (omega (arith, c .before .before .before .before .before .before .before .before .before .before .before .before .before .before .before .before .before .before .shape-of .ensures .n, A .n .1), c .before .before .before .before .before .rounds-of .kept .1 .1 .1 .1 .1 .1 .0 ∙ c .before .before .before .before .before .before .before .before .before .before .before .before .before .contenders-into .kept .1 .1 .1 .1 .1 .0, c .before .before .before .before .before .rounds-of .ensures .1 .0 .few)
 
-sub-t33 : tie.Need-sub-t33
-unfolding entryBytes
-sub-t33 c =
-    let x = c .before .before .before .before .before .before .before .before .before .before .before .before .before .before .before .before .before .before .before .before .before .before .before .before .before .args in
-    let p = c .before .before .before .before .before .before .before .before .before .before .before .before .before .before .before .before .before .before .before .before .before .before .before .before .before .pre in
-    let A = ranges (x .b) (p .0 .0) in
-    let U : Unpacked (x .b) (c .before .before .before .before .before .before .before .before .before .before .before .before .before .before .before .before .before .before .before .shape-of .result) (x .s1 .now) (x .s2 .now) = record { accepted = p .0 .0; shape = c .before .before .before .before .before .before .before .before .before .before .before .before .before .before .before .before .before .before .before .shape-of .ensures; sources = p .0 .1 } in
-    let rows = c .before .before .before .before .before .before .before .before .before .before .before .before .before .before .contenders-into .ensures .1 (x .b) U (λ i l. c .before .before .before .before .before .before .before .before .before .before .before .before .before .before .before .before .before .before .column .ensures i l) in
-    let n = c .before .before .before .before .before .before .before .before .before .before .before .before .before .before .before .before .before .before .before .shape-of .ensures .n in
-    let few : x .b .n ≤ 60 = A .n .1 in
-    let long = c .before .before .before .before .before .before .before .before .before .before .before .before .before .before .contenders-into .kept .1 .1 .1 .1 .0 in
-    let many = c .before .before .before .before .before .before .before .before .before .before .before .before .before .before .contenders-into .kept .1 .1 .1 .1 .1 .0 in
-    let before = pairs-total (x .b) (c .before .before .before .before .before .before .before .before .before .before .before .before .before .before .contenders-into .last .1 .1 .1 .1 .0) (c .before .before .before .before .before .before .before .before .before .before .before .before .before .before .contenders-into .last .1 .1 .1 .1 .1 .0) long many few rows in
-    let behind = left-total (x .b) (c .before .before .before .before .before .before .rounds-of .last .1 .1 .1 .1 .1 .0) (c .before .before .before .before .before .before .rounds-of .last .1 .1 .1 .1 .1 .1 .0) (c .before .before .before .before .before .before .rounds-of .kept .1 .1 .1 .1 .1 .0 ∙ long) (c .before .before .before .before .before .before .rounds-of .kept .1 .1 .1 .1 .1 .1 .0 ∙ many) few (c .before .before .before .before .before .before .rounds-of .ensures .1 .0) (c .before .before .before .before .before .before .rounds-of .ensures .1 .1) in
-    let pairs : c .before .before .before .before .before .before .before .before .before .before .pairs-of .result ≡ pairCount (x .b) = c .before .before .before .before .before .before .before .before .before .before .pairs-of .ensures .0 ∙ ap (λ (m : ℕ). total (take m (c .before .before .before .before .before .before .before .before .before .before .before .before .before .before .contenders-into .last .1 .1 .1 .1 .1 .0))) n ∙ before in
-    let left : c .pairs-of2 .result ≡ total (take (x .b .n) (c .before .before .before .before .before .before .rounds-of .last .1 .1 .1 .1 .1 .1 .0)) = c .pairs-of2 .ensures .0 ∙ ap (λ (m : ℕ). total (take m (c .before .before .before .before .before .before .rounds-of .last .1 .1 .1 .1 .1 .1 .0))) n in
-    omega (arith, pairs, left, behind)
-
 returns : tie.Need-returns
 unfolding entryBytes
 returns c =
-    let x = c .before .before .before .before .before .before .before .before .before .before .before .before .before .before .before .before .before .before .before .before .before .before .before .before .before .args in
-    let p = c .before .before .before .before .before .before .before .before .before .before .before .before .before .before .before .before .before .before .before .before .before .before .before .before .before .pre in
+    let x = c .before .before .before .before .before .before .before .before .before .before .before .before .before .before .before .before .before .before .before .before .before .before .before .before .before .before .args in
+    let p = c .before .before .before .before .before .before .before .before .before .before .before .before .before .before .before .before .before .before .before .before .before .before .before .before .before .before .pre in
     let A = ranges (x .b) (p .0 .0) in
-    let U : Unpacked (x .b) (c .before .before .before .before .before .before .before .before .before .before .before .before .before .before .before .before .before .before .before .shape-of .result) (x .s1 .now) (x .s2 .now) = record { accepted = p .0 .0; shape = c .before .before .before .before .before .before .before .before .before .before .before .before .before .before .before .before .before .before .before .shape-of .ensures; sources = p .0 .1 } in
-    let rows = c .before .before .before .before .before .before .before .before .before .before .before .before .before .before .contenders-into .ensures .1 (x .b) U (λ i l. c .before .before .before .before .before .before .before .before .before .before .before .before .before .before .before .before .before .before .column .ensures i l) in
-    let n = c .before .before .before .before .before .before .before .before .before .before .before .before .before .before .before .before .before .before .before .shape-of .ensures .n in
+    let U : Unpacked (x .b) (c .before .before .before .before .before .before .before .before .before .before .before .before .before .before .before .before .before .before .before .before .shape-of .result) (x .s1 .now) (x .s2 .now) = record { accepted = p .0 .0; shape = c .before .before .before .before .before .before .before .before .before .before .before .before .before .before .before .before .before .before .before .before .shape-of .ensures; sources = p .0 .1 } in
+    let rows = c .before .before .before .before .before .before .before .before .before .before .before .before .before .before .before .contenders-into .ensures .1 (x .b) U (λ i l. c .before .before .before .before .before .before .before .before .before .before .before .before .before .before .before .before .before .before .before .column .ensures i l) in
+    let n = c .before .before .before .before .before .before .before .before .before .before .before .before .before .before .before .before .before .before .before .before .shape-of .ensures .n in
     let few : x .b .n ≤ 60 = A .n .1 in
-    let long = c .before .before .before .before .before .before .before .before .before .before .before .before .before .before .contenders-into .kept .1 .1 .1 .1 .0 in
-    let many = c .before .before .before .before .before .before .before .before .before .before .before .before .before .before .contenders-into .kept .1 .1 .1 .1 .1 .0 in
-    let before = pairs-total (x .b) (c .before .before .before .before .before .before .before .before .before .before .before .before .before .before .contenders-into .last .1 .1 .1 .1 .0) (c .before .before .before .before .before .before .before .before .before .before .before .before .before .before .contenders-into .last .1 .1 .1 .1 .1 .0) long many few rows in
-    let behind = left-total (x .b) (c .before .before .before .before .before .before .rounds-of .last .1 .1 .1 .1 .1 .0) (c .before .before .before .before .before .before .rounds-of .last .1 .1 .1 .1 .1 .1 .0) (c .before .before .before .before .before .before .rounds-of .kept .1 .1 .1 .1 .1 .0 ∙ long) (c .before .before .before .before .before .before .rounds-of .kept .1 .1 .1 .1 .1 .1 .0 ∙ many) few (c .before .before .before .before .before .before .rounds-of .ensures .1 .0) (c .before .before .before .before .before .before .rounds-of .ensures .1 .1) in
-    let pairs : c .before .before .before .before .before .before .before .before .before .before .pairs-of .result ≡ pairCount (x .b) = c .before .before .before .before .before .before .before .before .before .before .pairs-of .ensures .0 ∙ ap (λ (m : ℕ). total (take m (c .before .before .before .before .before .before .before .before .before .before .before .before .before .before .contenders-into .last .1 .1 .1 .1 .1 .0))) n ∙ before in
-    let left : c .pairs-of2 .result ≡ total (take (x .b .n) (c .before .before .before .before .before .before .rounds-of .last .1 .1 .1 .1 .1 .1 .0)) = c .pairs-of2 .ensures .0 ∙ ap (λ (m : ℕ). total (take m (c .before .before .before .before .before .before .rounds-of .last .1 .1 .1 .1 .1 .1 .0))) n in
-    let most = c .before .before .before .before .before .before .before .before .before .before .pairs-of .ensures .1 in (
-      (c .before .before .before .before .before .before .rounds-of .ensures .0 .0, pairs, omega (arith, pairs, left, behind), c .before .before .before .before .before .before .rounds-of .ensures .0 .1),
-      (omega (arith, c .before .before .before .before .before .before .rounds-of .ensures .0 .0, rounds-most (x .b), pairs, most), most, omega (arith, most)),
+    let long = c .before .before .before .before .before .before .before .before .before .before .before .before .before .before .before .contenders-into .kept .1 .1 .1 .1 .0 in
+    let many = c .before .before .before .before .before .before .before .before .before .before .before .before .before .before .before .contenders-into .kept .1 .1 .1 .1 .1 .0 in
+    let before = pairs-total (x .b) (c .before .before .before .before .before .before .before .before .before .before .before .before .before .before .before .contenders-into .last .1 .1 .1 .1 .0) (c .before .before .before .before .before .before .before .before .before .before .before .before .before .before .before .contenders-into .last .1 .1 .1 .1 .1 .0) long many few rows in
+    let behind = left-total (x .b) (c .before .before .before .before .before .before .before .rounds-of .last .1 .1 .1 .1 .1 .0) (c .before .before .before .before .before .before .before .rounds-of .last .1 .1 .1 .1 .1 .1 .0) (c .before .before .before .before .before .before .before .rounds-of .kept .1 .1 .1 .1 .1 .0 ∙ long) (c .before .before .before .before .before .before .before .rounds-of .kept .1 .1 .1 .1 .1 .1 .0 ∙ many) few (c .before .before .before .before .before .before .before .rounds-of .ensures .1 .0) (c .before .before .before .before .before .before .before .rounds-of .ensures .1 .1) in
+    let pairs : c .before .before .before .before .before .before .before .before .before .before .before .pairs-of .result ≡ pairCount (x .b) = c .before .before .before .before .before .before .before .before .before .before .before .pairs-of .ensures .0 ∙ ap (λ (m : ℕ). total (take m (c .before .before .before .before .before .before .before .before .before .before .before .before .before .before .before .contenders-into .last .1 .1 .1 .1 .1 .0))) n ∙ before in
+    let left : c .before .pairs-of2 .result ≡ total (take (x .b .n) (c .before .before .before .before .before .before .before .rounds-of .last .1 .1 .1 .1 .1 .1 .0)) = c .before .pairs-of2 .ensures .0 ∙ ap (λ (m : ℕ). total (take m (c .before .before .before .before .before .before .before .rounds-of .last .1 .1 .1 .1 .1 .1 .0))) n in
+    let most = c .before .before .before .before .before .before .before .before .before .before .before .pairs-of .ensures .1 in (
+      (c .before .before .before .before .before .before .before .rounds-of .ensures .0 .0, pairs, omega (arith, pairs, left, behind), c .before .before .before .before .before .before .before .rounds-of .ensures .0 .1),
+      (omega (arith, c .before .before .before .before .before .before .before .rounds-of .ensures .0 .0, rounds-most (x .b), pairs, most), most, omega (arith, most)),
     )
 
 pub refine-spec : {M : Type 1} → statement M
@@ -104,4 +86,4 @@ refine-spec =
     tie.close
     (tie.spec (λ c κs. search needs) column-requires (λ c. search needs) (λ c. search needs)
     (λ c. search needs) contenders-into-requires (λ c. search needs) pairs-of-requires (λ c. search needs)
-    (λ c. search needs) rounds-of-requires (λ c. search needs) pairs-of-requires-2 sub-t33 (λ c. search needs) returns)
+    (λ c. search needs) rounds-of-requires (λ c. search needs) pairs-of-requires-2 (λ c κs. search needs) (λ c. search needs) returns)

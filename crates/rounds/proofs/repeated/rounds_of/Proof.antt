@@ -1,7 +1,7 @@
 -- `rounds::repeated::rounds_of` meets its contract: before round k its rows have its rivals. Assumes nothing.
 use mathlib.Core.Path.{_≡_, refl, sym, ap, _∙_}
 use mathlib.Core.List.{List, _++_}
-use Prim.Native.Nat.{ℕ, _≤_, _<_, _+_}
+use Prim.Native.Nat.{ℕ, _≤_, _<_, _+_, _-_}
 use native.Mathlib.Omega.{arith}
 use lib.ListN.{length, getD, take, drop}
 use Rattle.seqs.specs.Sums.{total, any}
@@ -23,7 +23,7 @@ Inv-loop b his s1 s2 early list₀ count₀ late₀ n k₀ list count late k =
     × (drop (nodes b) late ≡ drop (nodes b) late₀) × (k + total (take n count) ≤ 3601) × Going b k list count
 
 abbrev μ-loop : tie.MeasureT-loop
-μ-loop b his s1 s2 early list₀ count₀ late₀ n k₀ list count late k = total (take n count)
+μ-loop b his s1 s2 early list₀ count₀ late₀ n k₀ list count late k = 3602 - k
 
 loop-holds : tie.Need-loop-holds Inv-loop μ-loop
 loop-holds c =
@@ -61,21 +61,7 @@ add-k : tie.Need-add-k Inv-loop μ-loop
 add-k c = record { fits = omega (arith, c .before .before .before .before .before .before .before .before .before .before .before .before .before .before .before .before .before .before .before .before .loop .inv .6) }
 
 loop-less : tie.Need-loop-less Inv-loop μ-loop
-loop-less c =
-    let t = c .before .before .before .before .before .before .before .before .before .before .before .before .before .before .before .before .before .before .before .before .loop in
-    let x = c .before .before .before .before .before .before .before .before .before .before .before .before .before .before .before .before .before .before .before .before .before .before .before .before .before .before .before .before .before .args in
-    let p = c .before .before .before .before .before .before .before .before .before .before .before .before .before .before .before .before .before .before .before .before .before .before .before .before .before .before .before .before .before .pre in
-    let v = t .inv in
-    let A = ranges (x .b) (p .0 .0) in
-    let G = v .7 in
-    let U : Unpacked (x .b) (c .before .before .before .before .before .before .before .before .before .before .before .before .before .before .before .before .before .before .before .shape-of .result) (x .s1 .now) (x .s2 .now) = record { accepted = p .0 .0; shape = c .before .before .before .before .before .before .before .before .before .before .before .before .before .before .before .before .before .before .before .shape-of .ensures; sources = p .0 .1 } in
-    let line = c .before .before .before .before .before .before .before .before .before .before .before .before .before .before .before .round-into .ensures (x .b) (contending (x .b)) (G .known) U (p .0 .2) (G .rows) (G .even) in
-    let first = c .before .before .before .before .before .before .before .before .before .first-apart .ensures in
-    let k = c .before .before .before .before .keep-rows .ensures in
-    let next = going-next (x .b) (t .k) (x .his .now) (x .early .now) (t .late) (c .before .before .before .before .before .before .before .before .before .before .before .before .before .before .before .round-into .last .1 .1 .1 .1 .1 .1 .0) (t .list) (t .count) G (p .0 .2) (p .1 .1 .0 .3) line (c .before .before .before .before .before .before .before .before .before .first-apart .result) first (c .before .before .before .before .before .before .before .before .if1 .left) (c .before .before .before .before .keep-rows .last .1 .1 .1 .1 .1 .0) (c .before .before .before .before .keep-rows .last .1 .1 .1 .1 .1 .1 .0) (k .0 .1) (k .1 .0) (k .1 .1) in
-    let long : length (c .before .before .before .before .keep-rows .last .1 .1 .1 .1 .1 .0) ≡ 3600 = c .before .before .before .before .keep-rows .kept .1 .1 .1 .1 .1 .0 ∙ v .1 in
-    let many : length (c .before .before .before .before .keep-rows .last .1 .1 .1 .1 .1 .1 .0) ≡ 60 = c .before .before .before .before .keep-rows .kept .1 .1 .1 .1 .1 .1 .0 ∙ v .2 in
-    fewer-pairs (x .b) (t .k) (t .list) (t .count) (c .before .before .before .before .keep-rows .last .1 .1 .1 .1 .1 .0) (c .before .before .before .before .keep-rows .last .1 .1 .1 .1 .1 .1 .0) G next (v .1) (v .2) long many (A .n .1)
+loop-less c = omega (arith, c .before .before .before .before .before .before .before .before .before .before .before .before .before .before .before .before .before .before .before .before .loop .inv .6)
 
 loop-again : tie.Need-loop-again Inv-loop μ-loop
 loop-again c =
