@@ -13,10 +13,10 @@ ghost use Rattle.links.specs.Unpacked.{Sources};
 ghost use Rattle.links.specs.Stages.{readyEX};
 ghost use Rattle.rounds.specs.Rows.{finishEX};
 ghost use Rattle.analysis.specs.Result.{headOf, fourOf, result};
+use links::latency_of;
 use record::Block;
 use rounds::Counts;
 use rounds::finish_ex;
-use rounds::small;
 
 fn low(x: u32) -> u8
     ensures { λ r. ⌜ r ≡ x % 256 ⌝ }
@@ -126,16 +126,6 @@ pub fn put_result(b: Block, his: &[u8], early: &[u16], late: &[u16], counts: Cou
     record::put_head(&head, out);
     put_all_times(n, his, early, late, out);
     record::seal(out);
-}
-
-// The latency of stage g, x being that of its instruction's EX.
-fn latency_of(g: usize, x: u8) -> u32
-    ensures { λ r. ⌜ (r ≡ pick (eqb g 2) x 1) × (r ≤ 255) ⌝ }
-{
-    match g {
-        2 => small(x),
-        _ => 1,
-    }
 }
 
 // The latest ready time of stage g of instruction i: off EX it is the latest start.

@@ -1,18 +1,23 @@
 // What the analysis and the play both ask of a block again and again: its header's numbers, its columns, its last writers,
 // and the ready time of each stage.
 mod columns;
+mod numbers;
 mod stages;
 
 pub use columns::column;
 pub use columns::shape_of;
 pub use columns::sources;
-pub use stages::larger;
+pub use numbers::index;
+pub use numbers::larger;
+pub use numbers::small;
+pub use numbers::smaller;
+pub use numbers::time;
+pub use numbers::wide;
+pub use stages::latency_of;
 pub use stages::ready_cm;
 pub use stages::ready_ex;
 pub use stages::ready_id;
 pub use stages::ready_if;
-pub use stages::time;
-pub use stages::wide;
 
 // The header's numbers, as indices.
 pub struct Shape {

@@ -1,27 +1,23 @@
 // The ready time of each stage, from the starts of the nodes before it.
 ghost use mathlib.Core.Path.{_≡_};
-ghost use Prim.Native.Nat.{_+_, _*_, _%_, _≤_, _<_, max};
+ghost use Prim.Native.Nat.{_+_, _*_, _≤_, _<_};
 ghost use lib.ListN.{length};
+ghost use lib.Dec.{eqb};
+ghost use Rattle.seqs.specs.Lists.{pick};
 ghost use Rattle.links.specs.Stages.{finishBack, startBack, finishSource, readyIF, readyID, readyEX, readyCM};
 use crate::Shape;
+use crate::numbers::larger;
+use crate::numbers::small;
+use crate::numbers::wide;
 
-pub fn wide(x: u16) -> u32
-    ensures { λ r. ⌜ (r ≡ x) × (r ≤ 65535) ⌝ }
+// The latency of stage g, x being that of its instruction's EX.
+pub fn latency_of(g: usize, x: u8) -> u32
+    ensures { λ r. ⌜ (r ≡ pick (eqb g 2) x 1) × (r ≤ 255) ⌝ }
 {
-    x as u32
-}
-
-// A time as the 16-bit number that it is.
-pub fn time(x: u32) -> u16
-    ensures { λ r. ⌜ r ≡ x % 65536 ⌝ }
-{
-    (x % 65536) as u16
-}
-
-pub fn larger(a: u32, b: u32) -> u32
-    ensures { λ r. ⌜ r ≡ max a b ⌝ }
-{
-    if a < b { b } else { a }
+    match g {
+        2 => small(x),
+        _ => 1,
+    }
 }
 
 fn finish_back(s: &[u16], g: usize, k: usize, i: usize) -> u32

@@ -63,25 +63,25 @@ end-begin g (suc h) l =
     (λ e. let q : g ≡ h = omega (arith, ltb-false g h e) in rw q (omega arith))
 
 -- a node's ready limit
-abbrev readyLimit : ℕ → ℕ
+abbrev pub readyLimit : ℕ → ℕ
 readyLimit v = 513 * instruction v + beginOf (stage v)
 
 -- and its finish limit
-abbrev finishLimit : ℕ → ℕ
+abbrev pub finishLimit : ℕ → ℕ
 finishLimit v = 513 * instruction v + endOf (stage v)
 
-limits-grow : (u v : ℕ) → u < v → finishLimit u ≤ readyLimit v
+pub limits-grow : (u v : ℕ) → u < v → finishLimit u ≤ readyLimit v
 limits-grow u v l =
     by-test (ltb (instruction u) (instruction v))
     (λ e. omega (arith, ltb-true (instruction u) (instruction v) e, end-most (stage u)))
     (λ e. let g = ltb-false (instruction u) (instruction v) e in omega (arith, g, end-begin (stage u) (stage v) (omega arith)))
 
 -- the most that a node's start may be above its ready limit, by whether it is an EX
-abbrev late : Bool → ℕ
+abbrev pub late : Bool → ℕ
 late t = pick t 254 0
 
 -- a node's highest latency
-abbrev most : Bool → ℕ
+abbrev pub most : Bool → ℕ
 most t = pick t 255 1
 
 room-at : (g : ℕ) → g < 5 → beginOf g + late (eqb g EX) + most (eqb g EX) ≤ endOf g
@@ -92,8 +92,11 @@ room-at (suc (suc (suc zero))) l = omega arith
 room-at (suc (suc (suc (suc zero)))) l = omega arith
 room-at (suc (suc (suc (suc (suc g))))) l = absurd (omega arith)
 
-room : (v : ℕ) → readyLimit v + late (isEX v) + most (isEX v) ≤ finishLimit v
+pub room : (v : ℕ) → readyLimit v + late (isEX v) + most (isEX v) ≤ finishLimit v
 room v = omega (arith, room-at (stage v) (omega arith))
+
+pub end-limit : (v : ℕ) → finishLimit v ≤ 513 * (instruction v + 1)
+end-limit v = omega (arith, end-most (stage v))
 
 begin-most : (v : ℕ) → readyLimit v ≤ 513 * (instruction v + 1)
 begin-most v = omega (arith, begin-end (stage v), end-most (stage v))
@@ -124,7 +127,7 @@ module _ (b : Block) (A : Ranges b) where
       omega (arith, f, o)
 
 module _ (b : Block) (A : Ranges b) (cap : (i : ℕ) → entry b i .hi ≤ 255) where
-  highest-most : (v : ℕ) → highest b v ≤ most (isEX v)
+  pub highest-most : (v : ℕ) → highest b v ≤ most (isEX v)
   unfolding highest
   highest-most v = latency-most (entry b (instruction v) .hi) v (cap (instruction v))
 
@@ -133,7 +136,7 @@ module _ (b : Block) (A : Ranges b) (cap : (i : ℕ) → entry b i .hi ≤ 255) 
   lowest-most v l =
       latency-most (entry b (instruction v) .lo) v (omega (arith, cap (instruction v), A .instruction (instruction v) (omega arith) .hi))
 
-  most-255 : (t : Bool) → most t ≤ 255
+  pub most-255 : (t : Bool) → most t ≤ 255
   most-255 true = omega arith
   most-255 false = omega arith
 
@@ -179,11 +182,11 @@ module _ (b : Block) (A : Ranges b) (cap : (i : ℕ) → entry b i .hi ≤ 255) 
 
   -- NO EARLIEST TIME OF INSTRUCTION i EXCEEDS 513 (i + 1)
   pub earliest-limit : (v : ℕ) → v < nodes b → finish (lowest b) (earliest b) v ≤ 513 * (instruction v + 1)
-  earliest-limit v l = omega (arith, earliest-below (suc v) v (omega arith) l, end-most (stage v))
+  earliest-limit v l = omega (arith, earliest-below (suc v) v (omega arith) l, end-limit v)
 
   -- NO LATEST TIME OF INSTRUCTION i EXCEEDS 513 (i + 1), IN ANY ROUND
   pub round-limit : (con known : Pairs) (v : ℕ) → v < nodes b → finish (highest b) (round b con known) v ≤ 513 * (instruction v + 1)
-  round-limit con known v l = omega (arith, round-below con known (suc v) v (omega arith) l, end-most (stage v))
+  round-limit con known v l = omega (arith, round-below con known (suc v) v (omega arith) l, end-limit v)
 
   -- the same of the ready times, which are at most the starts
   pub ready-limit : (con known : Pairs) (v : ℕ) → v < nodes b → R b (round b con known) v ≤ 513 * (instruction v + 1)

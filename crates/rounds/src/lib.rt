@@ -6,7 +6,6 @@ mod rivals;
 
 pub use lines::earliest_into;
 pub use lines::finish_ex;
-pub use lines::small;
 pub use repeated::refine;
 
 // What the rounds leave beside the windows.

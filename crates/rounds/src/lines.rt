@@ -1,7 +1,7 @@
 // Time lines: the earliest starts, and one round's latest starts, instruction by instruction.
 ghost use mathlib.Core.Path.{_≡_};
 ghost use mathlib.Core.List.{_++_, map};
-ghost use Prim.Native.Nat.{ℕ, _+_, _-_, _*_, _≤_, _<_, min, max};
+ghost use Prim.Native.Nat.{ℕ, _+_, _-_, _*_, _≤_, _<_, max};
 ghost use lib.ListN.{length, getD, drop};
 ghost use Rattle.seqs.specs.Sums.{largest, total};
 ghost use Rattle.record.specs.declared.Block.{Block};
@@ -11,21 +11,11 @@ ghost use Rattle.model.specs.Rounds.{earliest, rival, round};
 ghost use Rattle.links.specs.Unpacked.{Unpacked};
 ghost use Rattle.rounds.specs.Rows.{Rows, Even, finishEX};
 ghost use Rattle.rounds.specs.Steps.{fetched, committed, latestOf};
-use crate::rivals::index;
 use crate::rivals::later_of;
 use links::Shape;
-
-pub fn small(x: u8) -> u32
-    ensures { λ r. ⌜ (r ≡ x) × (r ≤ 255) ⌝ }
-{
-    x as u32
-}
-
-fn smaller(a: u32, b: u32) -> u32
-    ensures { λ r. ⌜ r ≡ min a b ⌝ }
-{
-    if a < b { a } else { b }
-}
+use links::index;
+use links::small;
+use links::smaller;
 
 // IF and ID of instruction i.
 fn fetch_into(h: Shape, s: &mut [u16], i: usize)

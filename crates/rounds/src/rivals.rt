@@ -10,17 +10,12 @@ ghost use Rattle.seqs.specs.Lists.{pick, those, least, kept};
 ghost use Rattle.seqs.specs.Sums.{largest, total, any};
 ghost use Rattle.rounds.specs.Rows.{row, Rows, apartEX};
 use crate::lines::finish_ex;
+use links::index;
 
 fn larger_byte(a: u8, b: u8) -> u8
     ensures { λ r. ⌜ r ≡ max a b ⌝ }
 {
     if a < b { b } else { a }
-}
-
-pub fn index(x: u8) -> usize
-    ensures { λ r. ⌜ r ≡ x ⌝ }
-{
-    x as usize
 }
 
 pub fn mark(t: bool) -> usize

@@ -5,8 +5,8 @@ use mathlib.Core.Bool.{Bool, true, false≢true}
 use mathlib.Core.List.{List, [], _∷_, _++_, map}
 use mathlib.Core.Logic.{_⊎_, inl, inr}
 use Rattle.seqs.specs.Lists.{In, Every}
-use Rattle.seqs.specs.Sums.{any}
-use Rattle.seqs.proofs.Tests.{or-cases, or-first, or-second}
+use Rattle.seqs.specs.Sums.{any, all}
+use Rattle.seqs.proofs.Tests.{or-cases, or-first, or-second, and-left, and-right, and-both}
 
 -- ---- joined and mapped
 pub in-split : {A : Type 0} (x : A) (xs ys : List A) → In x (xs ++ ys) → In x xs ⊎ In x ys
@@ -74,3 +74,15 @@ module _ (p : ℕ → Bool) where
   unfolding any
   any-ext q [] h = refl
   any-ext q (x ∷ xs) h = rw (h x (inl refl), any-ext q xs (λ y i. h y (inr i))) refl
+
+  -- a test that holds of all
+  pub all-each : (xs : List ℕ) → all p xs ≡ true → (x : ℕ) → In x xs → p x ≡ true
+  unfolding all
+  all-each [] e x h = absurd h
+  all-each (y ∷ ys) e x (inl q) = ap p q ∙ and-left (p y) (all p ys) e
+  all-each (y ∷ ys) e x (inr h) = all-each ys (and-right (p y) (all p ys) e) x h
+
+  pub each-all : (xs : List ℕ) → ((x : ℕ) → In x xs → p x ≡ true) → all p xs ≡ true
+  unfolding all
+  each-all [] h = refl
+  each-all (y ∷ ys) h = and-both (p y) (all p ys) (h y (inl refl)) (each-all ys (λ x i. h x (inr i)))

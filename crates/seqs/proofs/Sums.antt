@@ -23,6 +23,12 @@ unfolding total
 total-append [] ys = omega arith
 total-append (x ∷ xs) ys = rw (total-append xs ys) (omega arith)
 
+pub largest-in : (xs : List ℕ) (x : ℕ) → In x xs → x ≤ largest xs
+unfolding largest
+largest-in [] x h = absurd h
+largest-in (y ∷ ys) x (inl q) = omega arith
+largest-in (y ∷ ys) x (inr h) = omega (arith, largest-in ys x h)
+
 module _ (m : ℕ) where
   pub largest-most : (xs : List ℕ) → ((x : ℕ) → In x xs → x ≤ m) → largest xs ≤ m
   unfolding largest

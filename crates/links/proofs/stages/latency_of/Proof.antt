@@ -1,8 +1,8 @@
--- `analysis::tables::latency_of` meets its contract. Assumes nothing.
+-- `links::stages::latency_of` meets its contract. Assumes nothing.
 use borrow.Author.Tests.{eq-eqb, ne-eqb}
 use borrow.Author.Needs.{needs}
-use Rattle.analysis.proofs.tables.latency_of.Statement.{statement}
-use Rattle.analysis.proofs.tables.latency_of.Tie as tie
+use Rattle.links.proofs.stages.latency_of.Statement.{statement}
+use Rattle.links.proofs.stages.latency_of.Tie as tie
 
 returns : tie.Need-returns
 returns c =
