@@ -1,4 +1,4 @@
 pub mod Outcomes
 pub mod Resulted
 pub mod Tabled
-pub mod Unpacks
+pub mod Fronted

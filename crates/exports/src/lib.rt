@@ -4,6 +4,8 @@ ghost use lib.ListN.{getD};
 ghost use Rattle.record.specs.Layout.{noEntry};
 ghost use Rattle.record.specs.Refusals.{meaning, verdict, readBlock, writeVerdict, written};
 ghost use Rattle.analysis.specs.Result.{analyseTests, analysed};
+ghost use Rattle.play.specs.Latencies.{playTests};
+ghost use Rattle.play.specs.Promises.{played};
 use record::Answer;
 
 fn number(a: Answer) -> u8
@@ -43,4 +45,14 @@ pub extern "C" fn bench_analyse(s: &[u8], out: &mut [u8]) -> u8
     let r = record::read(s);
     let b = r.block;
     number(analysis::analyse(b, out))
+}
+
+// Reads a record and writes the play table of what it read, with the number of the play's answer.
+#[no_mangle]
+pub extern "C" fn bench_play(s: &[u8], lat: &[u8], out: &mut [u16]) -> u8
+    ensures { λ r. ⌜ (r ≡ verdict (playTests (readBlock (now (s .entry))) (now (lat .entry)) (now (out .entry))) .0) × (now (out .exit) ≡ played (readBlock (now (s .entry))) (now (lat .entry)) (now (out .entry))) ⌝ }
+{
+    let r = record::read(s);
+    let b = r.block;
+    number(play::play(b, lat, out))
 }

@@ -5,6 +5,7 @@ use mathlib.Core.Bool.{_&&_}
 use mathlib.Core.List.{List, [], _∷_, _++_, map, map-append}
 use native.Mathlib.Omega.{arith}
 use native.Mathlib.Nat.{max-zero, zero-max, sub-zero}
+use lib.ListN.{getD}
 use lib.Dec.{leb, eqb, leb·zero}
 use borrow.Author.Tests.{ne-eqb, lt-ltb}
 use Rattle.seqs.specs.Lists.{pick}
@@ -12,16 +13,16 @@ use Rattle.seqs.specs.Sums.{largest}
 use Rattle.seqs.proofs.Tests.{by-test}
 use Rattle.seqs.proofs.Sums.{largest-append}
 use Rattle.record.specs.declared.Block.{Block}
-use Rattle.model.specs.Nodes.{IF, ID, EX, WB, CM, node, instruction, entry, latency, lowest, highest, Edges, finishEdges, lastWriter, source, sources, orderEdges, into, finishInto, orderInto}
+use Rattle.model.specs.Nodes.{IF, ID, EX, WB, CM, node, instruction, entry, latency, lowest, highest, chosen, Edges, finishEdges, lastWriter, source, sources, orderEdges, into, finishInto, orderInto}
 use Rattle.model.specs.Cycles.{start, finish, ready}
 use Rattle.links.specs.Stages.{finishBack, startBack, finishSource, readyIF, readyID, readyEX, readyWB, readyCM}
 use Rattle.links.specs.Unpacked.{code}
 
 -- ---- the stage and the instruction of a node
-stage-node : (g i : ℕ) → g < 5 → (5 * i + g) % 5 ≡ g
+pub stage-node : (g i : ℕ) → g < 5 → (5 * i + g) % 5 ≡ g
 stage-node g i h = omega arith
 
-instruction-node : (g i : ℕ) → g < 5 → (5 * i + g) / 5 ≡ i
+pub instruction-node : (g i : ℕ) → g < 5 → (5 * i + g) / 5 ≡ i
 instruction-node g i h = omega arith
 
 add-sub : (j : ℕ) → j + 1 - 1 ≡ j
@@ -74,6 +75,15 @@ module _ (b : Block) where
   pub highest-EX : (i : ℕ) → highest b (node EX i) ≡ entry b i .hi
   unfolding highest
   highest-EX i = rw (instruction-node EX i (omega arith)) (latency-EX (entry b i .hi) i)
+
+  -- those that a list chooses
+  pub chosen-one : (l : List ℕ) (g i : ℕ) → g < 5 → (g ≡ EX → ⊥) → chosen b l (node g i) ≡ 1
+  unfolding chosen
+  chosen-one l g i = latency-one (getD l (instruction (node g i)) 0) g i
+
+  pub chosen-EX : (l : List ℕ) (i : ℕ) → chosen b l (node EX i) ≡ getD l i 0
+  unfolding chosen
+  chosen-EX l i = rw (instruction-node EX i (omega arith)) (latency-EX (getD l i 0) i)
 
 -- ---- ready times
 module _ (b : Block) (lat : ℕ → ℕ) (one : (g i : ℕ) → g < 5 → (g ≡ EX → ⊥) → lat (node g i) ≡ 1) where

@@ -115,16 +115,20 @@ unfolding behind
 behind-most p m his fs h g = by-test (none his) (λ e. rw e h) (λ e. rw e (omega arith))
 
 module _ (b : Block) (A : Ranges b) where
-  ready-most : (lat : ℕ → ℕ) (s : List ℕ) (v : ℕ) → ((u : ℕ) → u < v → finish lat s u ≤ finishLimit u) → ready b lat s v ≤ readyLimit v
+  -- no ready time is above the finishes before it
+  pub ready-most : (lat : ℕ → ℕ) (s : List ℕ) (m v : ℕ) → ((u : ℕ) → u < v → finish lat s u ≤ m) → ready b lat s v ≤ m
   unfolding ready finish
-  ready-most lat s v ih =
-      let f : largest (map (finish lat s) (finishInto b v)) ≤ readyLimit v
-      = largest-most (readyLimit v) (map (finish lat s) (finishInto b v))
-      (λ x i. let r = in-map (finish lat s) x (finishInto b v) i in let l = finish-below b A (r .0) v (r .1) in omega (arith, r .2, ih (r .0) l, limits-grow (r .0) v l)) in
-      let o : largest (map (start s) (orderInto b v)) ≤ readyLimit v
-      = largest-most (readyLimit v) (map (start s) (orderInto b v))
-      (λ x i. let r = in-map (start s) x (orderInto b v) i in let l = order-below b A (r .0) v (r .1) in omega (arith, r .2, ih (r .0) l, limits-grow (r .0) v l)) in
+  ready-most lat s m v h =
+      let f : largest (map (finish lat s) (finishInto b v)) ≤ m
+      = largest-most m (map (finish lat s) (finishInto b v))
+      (λ x i. let r = in-map (finish lat s) x (finishInto b v) i in omega (arith, r .2, h (r .0) (finish-below b A (r .0) v (r .1)))) in
+      let o : largest (map (start s) (orderInto b v)) ≤ m
+      = largest-most m (map (start s) (orderInto b v))
+      (λ x i. let r = in-map (start s) x (orderInto b v) i in omega (arith, r .2, h (r .0) (order-below b A (r .0) v (r .1)))) in
       omega (arith, f, o)
+
+  ready-within : (lat : ℕ → ℕ) (s : List ℕ) (v : ℕ) → ((u : ℕ) → u < v → finish lat s u ≤ finishLimit u) → ready b lat s v ≤ readyLimit v
+  ready-within lat s v ih = ready-most lat s (readyLimit v) v (λ u l. omega (arith, ih u l, limits-grow u v l))
 
 module _ (b : Block) (A : Ranges b) (cap : (i : ℕ) → entry b i .hi ≤ 255) where
   pub highest-most : (v : ℕ) → highest b v ≤ most (isEX v)
@@ -146,7 +150,7 @@ module _ (b : Block) (A : Ranges b) (cap : (i : ℕ) → entry b i .hi ≤ 255) 
   EX-most rivals s v ih t =
       let i = instruction v in
       let ex : stage v ≡ EX = eqb-true (stage v) EX t in
-      let r : ready b (highest b) s v ≤ readyLimit v = ready-most b A (highest b) s v ih in
+      let r : ready b (highest b) s v ≤ readyLimit v = ready-within b A (highest b) s v ih in
       let his : largest (map (λ j. highest b (node EX j)) (those (i + 1) (b .n) (rivals i))) ≤ 255
       = largest-most 255 _
       (λ x m. let z = in-map (λ j. highest b (node EX j)) x (those (i + 1) (b .n) (rivals i)) m in omega (arith, z .2, highest-most (node EX (z .0)), most-255 (isEX (node EX (z .0))))) in
@@ -163,14 +167,14 @@ module _ (b : Block) (A : Ranges b) (cap : (i : ℕ) → entry b i .hi ≤ 255) 
       → latestStart b rivals s v ≤ readyLimit v + late (isEX v)
   unfolding latestStart R
   start-most rivals s v ih =
-      by-test (isEX v) (λ e. rw e (EX-most rivals s v ih e)) (λ e. rw e (omega (arith, ready-most b A (highest b) s v ih)))
+      by-test (isEX v) (λ e. rw e (EX-most rivals s v ih e)) (λ e. rw e (omega (arith, ready-within b A (highest b) s v ih)))
 
   -- ---- the lines
   earliest-below : (k v : ℕ) → v < k → v < nodes b → finish (lowest b) (earliest b) v ≤ finishLimit v
   unfolding finish
   earliest-below zero v h l = absurd (omega arith)
   earliest-below (suc k) v h l =
-      let r : ready b (lowest b) (earliest b) v ≤ readyLimit v = ready-most b A (lowest b) (earliest b) v (λ u o. earliest-below k u (omega arith) (omega arith)) in
+      let r : ready b (lowest b) (earliest b) v ≤ readyLimit v = ready-within b A (lowest b) (earliest b) v (λ u o. earliest-below k u (omega arith) (omega arith)) in
       omega (arith, earliest-is b A v l, r, lowest-most v l, room v)
 
   round-below : (con known : Pairs) (k v : ℕ) → v < k → v < nodes b → finish (highest b) (round b con known) v ≤ finishLimit v
@@ -192,7 +196,7 @@ module _ (b : Block) (A : Ranges b) (cap : (i : ℕ) → entry b i .hi ≤ 255) 
   pub ready-limit : (con known : Pairs) (v : ℕ) → v < nodes b → R b (round b con known) v ≤ 513 * (instruction v + 1)
   unfolding R
   ready-limit con known v l =
-      omega (arith, ready-most b A (highest b) (round b con known) v (λ u o. round-below con known v u o (omega arith)), begin-most v)
+      omega (arith, ready-within b A (highest b) (round b con known) v (λ u o. round-below con known v u o (omega arith)), begin-most v)
 
   -- NO TIME EXCEEDS 513 n, AND SO THE BOUND DOES NOT
   pub windows-limit : (v : ℕ) → v < nodes b → finish (highest b) (windows b .late) v ≤ 513 * b .n

@@ -62,6 +62,13 @@ after-accepted (t ∷ ts) us n z =
     let q = passed t ts (ltb-true 0 (t .number) (and-left (ltb 0 (t .number)) (numbered ts) n)) z in
     rw (q .0) (after-accepted ts us (and-right (ltb 0 (t .number)) (numbered ts) n) (q .1))
 
+pub both-accepted : (ts us : List Test) → numbered ts ≡ true → verdict (ts ++ us) ≡ (0, 0) → (verdict ts ≡ (0, 0)) × (verdict us ≡ (0, 0))
+both-accepted [] us n z = (none, z)
+both-accepted (t ∷ ts) us n z =
+    let q = passed t (ts ++ us) (ltb-true 0 (t .number) (and-left (ltb 0 (t .number)) (numbered ts) n)) z in
+    let r = both-accepted ts us (and-right (ltb 0 (t .number)) (numbered ts) n) (q .1) in
+    (pass t ts (q .0) ∙ r .0, r .1)
+
 pub after-refused : (ts us : List Test) (k : ℕ) → verdict ts .0 ≡ suc k → verdict (ts ++ us) ≡ verdict ts
 unfolding verdict
 after-refused [] us k e = absurd (omega arith)

@@ -6,11 +6,8 @@ use mathlib.Core.List.{List, [], _∷_, _++_}
 use mathlib.Core.Logic.{inl, inr}
 use native.Mathlib.Omega.{arith}
 use lib.ListN.{length, getD, take, drop, set, replicate}
-use lib.Seq.{getD-drop, getD-set-same, getD-set-other}
-use lib.Dec.{eqb}
-use borrow.Author.Tests.{eqb-true, eqb-false}
+use lib.Seq.{getD-drop}
 use Rattle.seqs.specs.Lists.{In}
-use Rattle.seqs.proofs.Tests.{by-test}
 
 pub getD-zeros : (n i : ℕ) → getD (replicate {A = ℕ} n 0) i 0 ≡ 0
 getD-zeros zero i = refl
@@ -41,8 +38,9 @@ module _ (P : ℕ → Type 0) where
   pub all-drop : (n : ℕ) (l : List ℕ) → All l → All (drop n l)
   all-drop n l h k = rw (getD-drop n l k 0) (h (n + k))
 
-  pub all-set : (l : List ℕ) (i v : ℕ) → i < length l → All l → P v → All (set l i v)
-  all-set l i v h a e k =
-      by-test (eqb k i)
-      (λ t. rw (eqb-true k i t, getD-set-same l i v 0 h) e)
-      (λ t. rw (getD-set-other l i k v 0 (eqb-false k i t)) (a k))
+  pub all-set : (l : List ℕ) (i v : ℕ) → All l → P v → All (set l i v)
+  all-set [] i v a e k = a k
+  all-set (x ∷ l) zero v a e zero = e
+  all-set (x ∷ l) zero v a e (suc k) = a (suc k)
+  all-set (x ∷ l) (suc i) v a e zero = a 0
+  all-set (x ∷ l) (suc i) v a e (suc k) = all-set l i v (λ j. a (suc j)) e k

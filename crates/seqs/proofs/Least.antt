@@ -1,11 +1,12 @@
--- The lowest index of a fault: where it is, that none is below it, and that it goes by the faults alone. Assumes nothing.
+-- The lowest index of a fault: where it is, that none is below it, and that it goes by the faults alone; and whether there
+-- is one. Assumes nothing.
 use mathlib.Core.Path.{_≡_, refl, sym, ap, _∙_}
-use mathlib.Core.Bool.{Bool, true, false}
+use mathlib.Core.Bool.{Bool, true, false, false≢true}
 use Prim.Native.Nat.{ℕ, zero, suc, _+_, _-_, _≤_, _<_}
 use native.Mathlib.Omega.{arith}
 use lib.Dec.{ltb}
-use borrow.Author.Tests.{ltb-true, ltb-false}
-use Rattle.seqs.specs.Lists.{leastFrom, least}
+use borrow.Author.Tests.{ltb-true, ltb-false, le-ltb}
+use Rattle.seqs.specs.Lists.{leastFrom, least, exists}
 use Rattle.seqs.proofs.Tests.{by-test}
 
 module _ (p : ℕ → Bool) where
@@ -124,3 +125,16 @@ module _ (a m b : ℕ) (p : ℕ → Bool) (l : a ≤ m) (g : m ≤ b) where
       let most : least a b p ≤ b = least-most a b p (omega arith) in
       let q : least a b p ≡ b = omega (arith, ltb-false (least a b p) b e, most) in
       rw q (least-none m b p g (λ k u v. least-below a b p k (omega arith) (omega arith) v)))
+
+-- ---- a number at which a test holds
+module _ (a b : ℕ) (p : ℕ → Bool) where
+  pub exists-not : exists a b p ≡ false → (v : ℕ) → a ≤ v → v < b → p v ≡ false
+  unfolding exists
+  exists-not e v l h = least-below a b p v l (omega (arith, ltb-false (least a b p) b e)) h
+
+  pub exists-here : (v : ℕ) → a ≤ v → v < b → p v ≡ true → exists a b p ≡ true
+  exists-here v l h t = by-test (exists a b p) (λ e. e) (λ e. absurd (false≢true (sym (exists-not e v l h) ∙ t)))
+
+  pub exists-none : a ≤ b → ((v : ℕ) → a ≤ v → v < b → p v ≡ false) → exists a b p ≡ false
+  unfolding exists
+  exists-none l h = le-ltb (least a b p) b (omega (arith, least-none a b p l h))

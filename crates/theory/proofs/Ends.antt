@@ -1,5 +1,7 @@
--- Every play ends: no node of instruction i finishes after 513 (i + 1) cycles. The limits of the latest times bound every
--- schedule, as a round in which every two EX may delay each other. Assumes nothing.
+-- Every play ends: no node of instruction i finishes after 513 (i + 1) cycles. IF is ready when all before it have finished,
+-- by 513 i; ID one cycle later, EX two. An earlier EX has then finished, and a later one holds the unit for 254 cycles more at
+-- most. EX takes 255 at most, WB and CM one each. So the limits are the latest times of a round in which every two EX may
+-- delay each other, and such times bound every schedule. Assumes nothing.
 use Prim.Native.Nat.{ℕ, _+_, _*_, _≤_, _<_}
 use mathlib.Core.Path.{_≡_, refl, ap}
 use mathlib.Core.Bool.{Bool, true, false}

@@ -4,5 +4,6 @@ pub mod Step
 pub mod Sound
 pub mod Graph
 pub mod Turns
+pub mod Cycle
 pub mod Schedule
 pub mod Ends

@@ -7,10 +7,9 @@ use mathlib.Core.Logic.{_⊎_, inl, inr}
 use native.Mathlib.Omega.{arith}
 use native.Mathlib.Numerals.{add-one}
 use lib.ListN.{length, replicate, length-replicate, getD-replicate}
-use borrow.Author.Tests.{le-ltb, ltb-false, not-true, not-false}
-use Rattle.seqs.specs.Lists.{least, exists}
+use borrow.Author.Tests.{not-true, not-false}
 use Rattle.seqs.proofs.Tests.{by-test}
-use Rattle.seqs.proofs.Least.{least-none, least-below}
+use Rattle.seqs.proofs.Least.{exists-not, exists-none}
 use Rattle.record.specs.declared.Block.{Block}
 use Rattle.record.proofs.Ranges.{Ranges}
 use Rattle.model.specs.Nodes.{nodes}
@@ -19,7 +18,8 @@ use Rattle.theory.proofs.Sum.{count, count-mono}
 use Rattle.theory.proofs.Net.{Net, Fits, Done, busy, busy→, →busy, Sched}
 use Rattle.theory.proofs.Step.{empty-sched, next-sched}
 use Rattle.theory.proofs.Graph.{net}
-use Rattle.theory.proofs.Turns.{seen, Known, started-not, turns-length, turns-next, turns-known}
+use Rattle.theory.proofs.Turns.{seen, Known, started-not, turns-length}
+use Rattle.theory.proofs.Cycle.{turns-next, turns-known}
 
 -- ---- a schedule in which all have started is one at every horizon that lies above the starts
 module _ (G : Net) (lat : ℕ → ℕ) where
@@ -63,16 +63,12 @@ module _ (b : Block) (p : State) where
   waits v = not (started (p .starts) v)
 
   pub over-all : over b p ≡ true → (v : ℕ) → v < nodes b → started (p .starts) v ≡ true
-  unfolding over exists
-  over-all e v l =
-      let none = ltb-false (least 0 (nodes b) waits) (nodes b) (not-true _ e) in
-      not-false _ (least-below 0 (nodes b) waits v (omega arith) (omega arith) l)
+  unfolding over
+  over-all e v l = not-false _ (exists-not 0 (nodes b) waits (not-true _ e) v (omega arith) l)
 
   pub all-over : ((v : ℕ) → v < nodes b → started (p .starts) v ≡ true) → over b p ≡ true
-  unfolding over exists
-  all-over h =
-      let e = least-none 0 (nodes b) waits (omega arith) (λ v _ l. ap not (h v l)) in
-      ap not (le-ltb (least 0 (nodes b) waits) (nodes b) (omega (arith, e)))
+  unfolding over
+  all-over h = ap not (exists-none 0 (nodes b) waits (omega arith) (λ v _ l. ap not (h v l)))
 
 -- what every state of a play is, in the net G of block b: it has a cell for each node, a start lies before its cycle
 -- number, and the starts as they are seen are a schedule

@@ -222,7 +222,13 @@ module _ (G : Net) (lat : ℕ → ℕ) (F : Fits G lat) (H : ℕ) (s : ℕ → �
           go (yes h) = omega (arith, Q .ls-base v l)
           go (no h) = omega (arith, Q .ls-ex v l e (wait-con (omega arith)), wait-sum, wait-last ih)
 
-  -- A ROUND BOUNDS EVERY PLAY
+  -- A ROUND BOUNDS EVERY SCHEDULE. In node order: the nodes before v keep their latest times, so v is ready by R. Off EX it
+  -- then starts. An EX that is ready at r and starts at s finds all units of its kind held at each cycle from r on and before
+  -- s. One that holds a unit has no path to v, or it had finished by r, and none from v, or it started after v; nor is it
+  -- apart from v. So it may delay v. A later one that holds a unit started before r, since from r on v came first; so it ends
+  -- by r + hi - 1, and from `base` on only earlier ones hold units. At s - 1 one of them runs: s is at most the largest of
+  -- their finishes (`wait-last`). And each cycle from `base` to s takes as many of their cycles as there are units: s is at
+  -- most `base` + their latencies' sum over the units (`wait-sum`).
   module _ (con late : ℕ → ℕ → Bool) (R LS LF : ℕ → ℕ) (Q : Round G ER Apart con late R LS LF) where
     finish : (u : ℕ) → u < G .N → s u ≤ LS u → s u + lat u ≤ LF u
     finish u l h = omega (arith, F .high u l, Q .lf u l)

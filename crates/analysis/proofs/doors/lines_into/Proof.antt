@@ -1,7 +1,8 @@
 -- `analysis::doors::lines_into` meets its contract. Assumes nothing.
 use mathlib.Core.Path.{_∙_}
 use native.Mathlib.Omega.{arith}
-use Rattle.analysis.proofs.Unpacks.{earliest-front, windows-front, few, lo-column, hi-column, sourced}
+use Rattle.links.proofs.Accepted.{few, lo-column, hi-column, sourced}
+use Rattle.analysis.proofs.Fronted.{earliest-front, windows-front}
 use borrow.Author.Needs.{needs}
 use Rattle.analysis.proofs.doors.lines_into.Statement.{statement}
 use Rattle.analysis.proofs.doors.lines_into.Tie as tie
@@ -33,8 +34,8 @@ refine-requires c κs =
     let s1 = c .before .before .before .before .before .before .before .before .before .before .before .before .before .sources in
     let s2 = c .before .before .before .before .before .before .before .before .before .before .before .before .sources2 in
     let ss = sourced b (s1 .result) (s2 .result) (s1 .ensures .0) (s2 .ensures .0) in
-    let e = c .before .before .before .before .before .before .before .earliest-into .ensures b (record { accepted = z; shape = c .before .before .before .before .before .before .before .before .before .before .before .before .before .before .before .before .shape-of .ensures; sources = ss }) (lo-column b z (c .before .before .before .before .before .before .before .before .before .before .before .before .before .before .before .column .result) (c .before .before .before .before .before .before .before .before .before .before .before .before .before .before .before .column .ensures)) in (
-      (z, ss, hi-column b z (c .before .before .before .before .before .before .before .before .before .before .before .before .before .before .column2 .result) (c .before .before .before .before .before .before .before .before .before .before .before .before .before .before .column2 .ensures)),
+    let e = c .before .before .before .before .before .before .before .earliest-into .ensures b (record { accepted = z; shape = c .before .before .before .before .before .before .before .before .before .before .before .before .before .before .before .before .shape-of .ensures; sources = ss }) (lo-column b (c .before .before .before .before .before .before .before .before .before .before .before .before .before .before .before .column .result) (c .before .before .before .before .before .before .before .before .before .before .before .before .before .before .before .column .ensures)) in (
+      (z, ss, hi-column b (c .before .before .before .before .before .before .before .before .before .before .before .before .before .before .column2 .result) (c .before .before .before .before .before .before .before .before .before .before .before .before .before .before .column2 .ensures)),
       (
         (c .before .before .before .before .before .before .before .before .before .before .before .before .before .before .column2 .ok .1 .0 .1, s1 .ok .1 .0 .1, s2 .ok .1 .0 .1, c .before .before .before .before .before .before .before .earliest-into .kept .1 .1 .1 .1 .0 ∙ c .before .before .before .before .before .before .before .before .before .before .before .before .before .before .before .before .before .before .before .pre .1, c .before .before .before .before .before .before .before .before .before .before .before .before .before .before .before .before .before .before .before .pre .2),
         (s1 .ensures .1, s2 .ensures .1, earliest-front b _ _ e),
@@ -48,7 +49,7 @@ returns c =
     let s1 = c .before .before .before .before .before .before .before .before .before .before .before .before .before .before .before .before .sources in
     let s2 = c .before .before .before .before .before .before .before .before .before .before .before .before .before .before .before .sources2 in
     let ss = sourced b (s1 .result) (s2 .result) (s1 .ensures .0) (s2 .ensures .0) in
-    let e = c .before .before .before .before .before .before .before .before .before .before .earliest-into .ensures b (record { accepted = z; shape = c .before .before .before .before .before .before .before .before .before .before .before .before .before .before .before .before .before .before .before .shape-of .ensures; sources = ss }) (lo-column b z (c .before .before .before .before .before .before .before .before .before .before .before .before .before .before .before .before .before .before .column .result) (c .before .before .before .before .before .before .before .before .before .before .before .before .before .before .before .before .before .before .column .ensures)) in
+    let e = c .before .before .before .before .before .before .before .before .before .before .earliest-into .ensures b (record { accepted = z; shape = c .before .before .before .before .before .before .before .before .before .before .before .before .before .before .before .before .before .before .before .shape-of .ensures; sources = ss }) (lo-column b (c .before .before .before .before .before .before .before .before .before .before .before .before .before .before .before .before .before .before .column .result) (c .before .before .before .before .before .before .before .before .before .before .before .before .before .before .before .before .before .before .column .ensures)) in
     let r = c .before .before .refine .ensures in (
       (r .0 .0, r .0 .1, r .0 .2, r .1 .0, r .1 .1, r .1 .2),
       ((earliest-front b _ _ e, windows-front b _ _ (r .0 .3)), c .before .before .before .before .before .before .before .before .before .before .before .before .before .before .before .before .before .before .before .shape-of .ensures .most),

@@ -1,5 +1,5 @@
 -- `analysis::doors::result_into` meets its contract. Assumes nothing.
-use Rattle.analysis.proofs.Unpacks.{few, hi-column}
+use Rattle.links.proofs.Accepted.{few, hi-column}
 use borrow.Author.Needs.{needs}
 use Rattle.analysis.proofs.doors.result_into.Statement.{statement}
 use Rattle.analysis.proofs.doors.result_into.Tie as tie
@@ -13,7 +13,7 @@ put-result-requires c κs =
     let l = c .before .before .before .before .before .before .before .lines-into in (
       (c .before .before .before .before .column .ok .1 .0 .1, l .kept .1 .0, l .kept .1 .1 .0, c .before .before .before .before .before .before .before .before .before .before .before .pre .1),
       (
-        (z, hi-column (c .before .before .before .before .before .before .before .before .before .before .before .args .b) z (c .before .before .before .before .column .result) (c .before .before .before .before .column .ensures)),
+        (z, hi-column (c .before .before .before .before .before .before .before .before .before .before .before .args .b) (c .before .before .before .before .column .result) (c .before .before .before .before .column .ensures)),
         (l .ensures .1 .0, l .ensures .0),
       ),
     )

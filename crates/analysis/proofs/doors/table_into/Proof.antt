@@ -1,5 +1,5 @@
 -- `analysis::doors::table_into` meets its contract. Assumes nothing.
-use Rattle.analysis.proofs.Unpacks.{few, lo-column, hi-column, sourced}
+use Rattle.links.proofs.Accepted.{few, lo-column, hi-column, sourced}
 use borrow.Author.Needs.{needs}
 use Rattle.analysis.proofs.doors.table_into.Statement.{statement}
 use Rattle.analysis.proofs.doors.table_into.Tie as tie
@@ -28,7 +28,7 @@ put-table-requires c κs =
       (lo .ok .1 .0 .1, his .ok .1 .0 .1, s1 .ok .1 .0 .1, s2 .ok .1 .0 .1, l .kept .1 .0, l .kept .1 .1 .0, c .before .before .before .before .before .before .before .before .before .before .before .before .before .before .before .before .before .pre .1),
       (
         (z, sourced b (s1 .result) (s2 .result) (s1 .ensures .0) (s2 .ensures .0), l .ensures .1 .1, s1 .ensures .1, s2 .ensures .1),
-        ((lo-column b z (lo .result) (lo .ensures), hi-column b z (his .result) (his .ensures)), l .ensures .1 .0),
+        ((lo-column b (lo .result) (lo .ensures), hi-column b (his .result) (his .ensures)), l .ensures .1 .0),
       ),
     )
 

@@ -39,7 +39,7 @@ loop-again c =
       simp length-set (search needs),
       writers-next b (t .last) (t .j) (t .inv .2) (search needs) (t .inv .3),
       store-more (t .a) (t .j) _ 0 _ (search needs) (t .inv .4) e,
-      all-set (λ y. y ≤ 60) (t .a) (t .j) _ (search needs) (t .inv .5) (omega (arith, e, source-most b (byteOf (entry b (t .j)) k) (t .j))),
+      all-set (λ y. y ≤ 60) (t .a) (t .j) _ (t .inv .5) (omega (arith, e, source-most b (byteOf (entry b (t .j)) k) (t .j))),
     )
 
 returns : tie.Need-returns Inv-loop μ-loop

@@ -60,7 +60,7 @@ loop-again c =
       placed-length (t .list) r (t .j) k (omega arith) fits long ∙ t .inv .1,
       simp length-set (search needs),
       all-placed (λ y. y < 60) (t .list) r (t .j) k (omega arith) (t .inv .3) (f .ensures .2),
-      all-set (λ y. y ≤ 60) (t .count) (t .j) (f .result) room (t .inv .4) (f .ensures .0),
+      all-set (λ y. y ≤ 60) (t .count) (t .j) (f .result) (t .inv .4) (f .ensures .0),
       rows-more (t .list) (t .count) r (t .j) k (f .result) (omega arith) fits long room _ (omega (arith, f .ensures .0)) (t .inv .4) (t .inv .5) (f .ensures .1),
     )
 

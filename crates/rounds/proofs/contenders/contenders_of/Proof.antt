@@ -42,7 +42,7 @@ loop-again c =
       omega (arith, m .ensures .1),
       simp length-set (search needs),
       rw counted (those-store _ (t .row) _ (t .i) (t .len) (search needs) (search needs) (t .inv .5)),
-      all-set (λ y. y < 60) (t .row) (t .len) (t .i) (search needs) (t .inv .6) (search needs),
+      all-set (λ y. y < 60) (t .row) (t .len) (t .i) (t .inv .6) (search needs),
     )
 
 returns : tie.Need-returns Inv-loop μ-loop

@@ -47,7 +47,7 @@ loop-again c =
       omega (arith, c .mark .ensures .1, v .2),
       keep-more p (x .row .now) (t .row) (t .k) (t .len) h (v .1) (v .2) (v .4) i (c .mark .result) refl m (v .3),
       rest-more p (x .row .now) (t .row) (t .k) (t .len) h (v .1) (v .2) (v .4) i,
-      all-set (λ y. y < 60) (t .row) (t .len) i (omega (arith, v .1, v .2)) (v .5) (v .5 (t .k)),
+      all-set (λ y. y < 60) (t .row) (t .len) i (v .5) (v .5 (t .k)),
     )
 
 returns : tie.Need-returns Inv-loop μ-loop

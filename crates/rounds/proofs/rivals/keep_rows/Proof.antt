@@ -78,7 +78,7 @@ loop-again c =
       placed-length (t .list) r j k few fits whole ∙ v .2,
       length-set (t .count) j m ∙ v .3,
       all-placed (λ y. y < 60) (t .list) r j k (omega arith) (v .4) (c .before .before .keep-row .ensures .2),
-      all-set (λ y. y ≤ 60) (t .count) j m room (v .5) (omega (arith, most, few)),
+      all-set (λ y. y ≤ 60) (t .count) j m (v .5) (omega (arith, most, few)),
       below-more (λ i. x .first ≤ i → row (placed (t .list) j k r) (set (t .count) j m) i ≡ f i) j (λ i l g. other i (λ e. omega arith) ∙ v .6 i l g) (λ g. this),
       λ i l. other i (λ e. omega (arith, v .0)) ∙ v .7 i l,
       λ i l. other i (λ e. omega arith) ∙ v .8 i (omega arith),

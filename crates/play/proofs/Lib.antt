@@ -1,0 +1,15 @@
+pub mod Unfit
+pub mod Listed
+pub mod Outcomes
+pub mod Begins
+pub mod Held
+pub mod Ends
+pub mod Turned
+pub mod Passing
+pub mod Counted
+pub mod Turning
+pub mod Midway
+pub mod Swept
+pub mod Going
+pub mod Tabled
+pub mod Timely

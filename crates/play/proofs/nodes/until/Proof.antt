@@ -1,0 +1,10 @@
+-- `play::nodes::until` meets its contract. Assumes nothing.
+use borrow.Author.Needs.{needs}
+use Rattle.play.proofs.nodes.until.Statement.{statement}
+use Rattle.play.proofs.nodes.until.Tie as tie
+
+returns : tie.Need-returns
+returns c = search needs
+
+pub until-spec : {M : Type 1} → statement M
+until-spec = tie.close (tie.spec (λ c κs. search needs) (λ c. search needs) returns)

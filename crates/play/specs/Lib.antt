@@ -1,0 +1,4 @@
+pub mod Latencies
+pub mod Steps
+pub mod Running
+pub mod Promises

@@ -1,0 +1,48 @@
+-- What each operation promises of its outcome.
+use mathlib.Core.Path.{_≡_}
+use mathlib.Core.List.{List, _++_}
+use Prim.Native.Nat.{ℕ, _*_}
+use lib.ListN.{drop}
+use Rattle.seqs.specs.Lists.{pick}
+use Rattle.record.specs.Refusals.{meaning, verdict, accepts}
+use Rattle.record.specs.declared.Answer.{Answer}
+use Rattle.record.specs.declared.Block.{Block}
+use Rattle.model.specs.Nodes.{chosen}
+use Rattle.model.specs.Cycles.{State, cycle, playLength, playTable}
+use Rattle.play.specs.Latencies.{cycleTests, playTests, lengthTests}
+use Rattle.play.specs.declared.PlayState.{PlayState}
+use Rattle.play.specs.declared.Step.{Step}
+use Rattle.play.specs.declared.Lasting.{Lasting}
+
+-- the state that a value of the code is
+abbrev pub stateOf : PlayState → State
+stateOf p = record { t = p .t; starts = p .starts }
+
+-- the state after a cycle. "A refused cycle gives back the state it got"
+unfoldable pub stepped : Block → List ℕ → State → State
+stepped b l p = pick (accepts (verdict (cycleTests b l p))) (cycle b (chosen b l) p) p
+
+-- what the output of a play holds at the end. "Numbers beyond those stay untouched."
+unfoldable pub played : Block → List ℕ → List ℕ → List ℕ
+played b l o = pick (accepts (verdict (playTests b l o))) (playTable b (chosen b l) ++ drop (15 * b .n) o) o
+
+-- the length of a play. "any other value handed back beside a refusal is all zero"
+unfoldable pub lasting : Block → List ℕ → ℕ
+lasting b l = pick (accepts (verdict (lengthTests b l))) (playLength b (chosen b l)) 0
+
+-- one cycle of the block b with the latencies l from the state p: the answer is the verdict, and the state is the next or
+-- the very one
+pub record Cycles (b : Block) (l : List ℕ) (p : PlayState) (r : Step) : Type 0 where
+  pub answer : meaning (r .answer) ≡ verdict (cycleTests b l (stateOf p))
+  pub state : stateOf (r .state) ≡ stepped b l (stateOf p)
+
+-- playing to an output that held o and then holds o': the answer is the verdict, and the output has the play table or is
+-- untouched
+pub record Plays (b : Block) (l o : List ℕ) (a : Answer) (o' : List ℕ) : Type 0 where
+  pub answer : meaning a ≡ verdict (playTests b l o)
+  pub output : o' ≡ played b l o
+
+-- asking for the length
+pub record Lasts (b : Block) (l : List ℕ) (r : Lasting) : Type 0 where
+  pub answer : meaning (r .answer) ≡ verdict (lengthTests b l)
+  pub cycles : r .cycles ≡ lasting b l
