@@ -156,6 +156,84 @@ def table(b):
     return [x for e, l in zip(early, late) for x in e + l]
 
 
+# ---- the play: a state is a cycle number and the starts of 300 nodes, None where one has not started
+def before(b):
+    """For each node those that its finish edges come from, and those that its order edges come from."""
+    return [[[u for u, w in links if w == v] for v in range(5 * b['head'][0])] for links in edges(b)]
+
+
+def latency_of(lat, v):
+    return lat[v // 5] if v % 5 == EX else 1
+
+
+def cycled(b, lat, links, state):
+    """The next state."""
+    t, starts = state[0], list(state[1])
+    n, kinds, (finish, order) = b['head'][0], [e[0] for e in b['entries']], links
+
+    def started(u):
+        return starts[u] is not None
+
+    def finished(u):
+        return started(u) and starts[u] + latency_of(lat, u) <= t
+
+    def runs(u):
+        return started(u) and starts[u] <= t < starts[u] + latency_of(lat, u)
+
+    def free(v):
+        return not any(kinds[i] == kinds[v // 5] and runs(5 * i + EX) for i in range(n))
+
+    for v in range(5 * n):
+        if not started(v) and all(finished(u) for u in finish[v]) and all(started(u) for u in order[v]):
+            if v % 5 != EX or free(v):
+                starts[v] = t
+    return t + 1, starts
+
+
+NOTHING = (0, [None] * 300)
+
+
+def walked(b, lat, state=NOTHING, most=None):
+    """The states that cycles lead to, until CM of the last instruction has started, or at most so many."""
+    links, states, last = before(b), [], 5 * b['head'][0] - 1
+    while not states or states[-1][1][last] is None and len(states) != most:
+        state = cycled(b, lat, links, state)
+        states.append(state)
+    return states
+
+
+def played(b, lat):
+    """The play table: cycles from nothing until all have started."""
+    nodes, links, state = 5 * b['head'][0], before(b), NOTHING
+    while None in state[1][:nodes]:
+        state = cycled(b, lat, links, state)
+    starts, table = state[1], []
+    for v in range(nodes):
+        finishes = [starts[u] + latency_of(lat, u) for u in links[0][v]]
+        ready = max([0] + finishes + [starts[u] for u in links[1][v]])
+        table += [ready, starts[v], starts[v] + latency_of(lat, v)]
+    return table
+
+
+def judged(b, lat, room=None, state=None):
+    """The verdict on a play, its length or a cycle: test 6 where there is an output, test 9 where there is a state."""
+    n, v = b['head'][0], verdict(encoded(b), (4, 5))
+    if v != (0, 0):
+        return v
+    if room is not None and room < 15 * n:
+        return 6, 0
+    if len(lat) != n:
+        return 7, 0
+    for i in range(n):
+        if not b['entries'][i][1] <= lat[i] <= b['entries'][i][2]:
+            return 8, i
+    if state is not None:
+        t, starts = state
+        if t > 30779 or any(x is not None and (x >= t or v >= 5 * n) for v, x in enumerate(starts)):
+            return 9, 0
+    return 0, 0
+
+
 # ---- made blocks, as the trial makes them
 def following(x):
     return (x % 2147483648 * 1103515245 + 12345) % 2147483648
@@ -220,7 +298,37 @@ def spoiled(b, x):
     return b
 
 
+def lowest(b):
+    return [e[1] for e in b['entries'][:b['head'][0]]]
+
+
+def highest(b):
+    return [e[2] for e in b['entries'][:b['head'][0]]]
+
+
+def drawn_latencies(b, x):
+    lat = []
+    for lo, hi in zip(lowest(b), highest(b)):
+        lat.append(lo + drawn(x) % (1 + hi - lo))
+        x = following(x)
+    return lat
+
+
 # ---- the lines
+def summed(total, numbers):
+    for x in numbers:
+        total = (total * 65599 + x) % 4294967291
+    return total
+
+
+def sum_state(total, state):
+    return summed(total, [state[0]] + [65535 if x is None else x for x in state[1]])
+
+
+def filled(numbers, room):
+    return numbers + [43690] * (room - len(numbers))
+
+
 def said(v):
     return ' accepted' if v == (0, 0) else ' refused %d at %d' % v
 
@@ -303,18 +411,30 @@ def numbers(b):
     return '  bound %d rounds %d pairs %d apart %d' % (bound, rounds, pairs, apart)
 
 
+def of_entries(*given, w=8, width=1):
+    """Kind, lo, hi, register written, register read of each entry."""
+    entries = [list(e) + [255] for e in given] + [[0] * 6] * (60 - len(given))
+    return dict(head=[len(given), 4, w, width, width, width, 1], number=1, entries=entries)
+
+
+E = of_entries((0, 1, 4, 1, 255), (1, 4, 4, 255, 1), (1, 4, 4, 2, 255), (2, 12, 12, 255, 2))
+
+
 def worked():
-    """Blocks A to I: kind, lo, hi, register written, register read of each entry."""
-    def line(name, *given, w=8, width=1):
-        entries = [list(e) + [255] for e in given] + [[0] * 6] * (60 - len(given))
-        print(name + numbers(dict(head=[len(given), 4, w, width, width, width, 1], number=1, entries=entries)))
+    """Blocks A to I."""
+    def print_block(name, b):
+        lengths = '  length %d at lowest %d at highest' % (played(b, lowest(b))[-1], played(b, highest(b))[-1])
+        print(name + lengths + numbers(b))
+
+    def line(name, *given, **widths):
+        print_block(name, of_entries(*given, **widths))
 
     one, four, none = (0, 1, 1, 255, 255), (1, 1, 4, 255, 255), 255
     line('A', one)
     line('B', four)
     line('C', four, four)
     line('D', (1, 1, 4, 1, none), (1, 1, 4, none, 1))
-    line('E', (0, 1, 4, 1, none), (1, 4, 4, none, 1), (1, 4, 4, 2, none), (2, 12, 12, none, 2))
+    print_block('E', E)
     line('F', (1, 1, 1, none, none), one, one, (1, 1, 3, none, none))
     line('G', one, one, width=2)
     line('H', one, one, w=1)
@@ -330,9 +450,7 @@ def windows():
     x, total = 4, 0
     for k in range(300):
         b = crowded(1 + k % 60, x)
-        t = table(b)
-        for v in result(b) + t + [43690] * (1800 - len(t)):
-            total = (total * 65599 + v) % 4294967291
+        total = summed(total, result(b) + filled(table(b), 1800))
         x = following(x)
     print('crowded blocks 300\n  sum over result records and window tables %d' % total)
 
@@ -365,9 +483,111 @@ def doors():
     windows(low, 0, v)
 
 
+def plays():
+    for x in (1, 2, 3, 4):
+        lat = [x, 4, 4, 12]
+        length, steps = played(E, lat)[-1], len(walked(E, lat))
+        print('E, first latency %d  length %d by table %d by steps %d, same starts' % (x, length, length, steps))
+    x, tables, states, stepped, same = 9, 0, 0, 0, 0
+    for k in range(300):
+        b = crowded(1 + k % 60, x)
+        x = following(x)
+        lat = drawn_latencies(b, x)
+        t = played(b, lat)
+        tables = summed(tables, filled(t, 900) + [t[-1]])
+        if k % 3 == 0 and t[-1] < 300:
+            walk = walked(b, lat)
+            for state in walk:
+                states = sum_state(states, state)
+            stepped += 1
+            same += walk[-1][1][:len(t) // 3] == t[1::3]
+    print('plays of crowded blocks 300\n  sum over play tables and lengths %d' % tables)
+    print('  short ones stepped through %d\n  to the same starts %d' % (stepped, same))
+    print('  sum over their states %d' % states)
+
+
+def cycle_line(b, lat, state):
+    v = judged(b, lat, state=state)
+    if v != (0, 0):
+        return '  cycle%s kept' % said(v)
+    return '  cycle%s sum %d' % (said(v), sum_state(0, cycled(b, lat, before(b), state)))
+
+
+def faults():
+    def seven():
+        b = crowded(7, 10)
+        for i in (0, 3, 6):
+            b['entries'][i][1:3] = 20, 30
+        return b
+
+    def changed(*latencies):
+        lat = lowest(seven())
+        for i, x in latencies:
+            lat[i] = x
+        return lat
+
+    def line(name, b=seven(), lat=changed(), room=105, state=NOTHING):
+        v, w = judged(b, lat), judged(b, lat, room)
+        length = '  length%s of %d' % (said(v), played(b, lat)[-1] if v == (0, 0) else 0)
+        left = ' sum %d' % summed(0, filled(played(b, lat), 1000)) if w == (0, 0) else ' untouched'
+        print(name + cycle_line(b, lat, state) + length + '  play' + said(w) + left)
+
+    line('list of 7, output of 105')
+    for n in (0, 6, 8, 100):
+        line('list of %d' % n, lat=(changed() + [0] * 93)[:n])
+    for room in (0, 104, 106, 1000):
+        line('output of %d' % room, room=room)
+    for i in (0, 3, 6):
+        for x in (0, 19, 20, 30, 31, 255):
+            line('latency of instruction %d set to %d' % (i, x), lat=changed((i, x)))
+    b, lat, unfit = seven(), changed((6, 31), (3, 19)), (30780, [None] * 300)
+    line('unfit state', state=unfit)
+    line('and latency 31 of instruction 6', lat=changed((6, 31)), state=unfit)
+    line('and latency 19 of instruction 3', lat=lat, state=unfit)
+    line('and output of 104', b, lat, 104, unfit)
+    line('and list of 6', b, lat[:6], 104, unfit)
+    b['entries'][5][0] = 4
+    line('and kind 4 in entry 5', b, lat[:6], 104, unfit)
+    b['head'][4] = 5
+    line('and decode width 5', b, lat[:6], 104, unfit)
+    b['head'][0] = 61
+    line('and n 61', b, lat[:6], 104, unfit)
+
+
+def states():
+    def alone(b, t, v, x):
+        starts = [None] * 300
+        starts[v] = None if x == 65535 else x
+        state = 'state of %d in cycle %d, node %d started at %d' % (b['head'][0], t, v, x)
+        print(state + cycle_line(b, lowest(b), (t, starts)))
+
+    for given in (
+            (30779, 0, 65535), (30780, 0, 65535), (65535, 0, 65535), (30779, 7, 30778), (30779, 7, 30779), (0, 0, 0),
+            (1, 0, 0), (10, 7, 9), (10, 7, 10), (10, 7, 11), (10, 7, 65534), (10, 34, 3), (10, 35, 3), (10, 299, 3),
+            (10, 299, 10)):
+        alone(crowded(7, 10), *given)
+    alone(crowded(60, 11), 10, 299, 3)
+    x, total = 12, 0
+    for k in range(300):
+        n, last, starts = 1 + k % 20, drawn(x) % 31, [None] * 300
+        y = x
+        for v in range(5 * n):
+            if drawn(y) % 2 == 0:
+                starts[v] = drawn(following(y)) % (1 + last)
+            y = chain(y, 2)[-1]
+        b = crowded(n, x)
+        for state in walked(b, drawn_latencies(b, following(x)), (1 + last, starts), 40):
+            total = sum_state(total, state)
+        x = following(x)
+    print('walks from made states 300\n  sum over the states %d' % total)
+
+
 vectors()
 changes()
 trips()
 worked()
 windows()
 doors()
+plays()
+faults()
+states()

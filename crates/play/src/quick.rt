@@ -1,14 +1,12 @@
 // The whole play, in place: one stage of each instruction is looked at in a cycle, and cycles in which nothing starts are
 // passed over.
 ghost use mathlib.Core.Path.{_≡_};
-ghost use mathlib.Core.Bool.{_&&_};
-ghost use Prim.Native.Nat.{ℕ, _+_, _*_, _≤_, _<_};
-ghost use lib.ListN.{length, getD, set, replicate};
+ghost use Prim.Native.Nat.{ℕ, _≤_, _<_};
+ghost use lib.ListN.{length, getD, replicate};
 ghost use lib.Dec.{eqb};
 ghost use Rattle.seqs.specs.Lists.{pick};
-ghost use Rattle.record.specs.Refusals.{blockVerdict};
 ghost use Rattle.record.specs.declared.Block.{Block};
-ghost use Rattle.model.specs.Nodes.{node, chosen};
+ghost use Rattle.model.specs.Nodes.{chosen};
 ghost use Rattle.model.specs.Cycles.{notStarted, play};
 ghost use Rattle.links.specs.Unpacked.{Unpacked};
 ghost use Rattle.play.specs.Steps.{Turned};
@@ -91,6 +89,13 @@ fn sweep(
     next
 }
 
+// 1 for an instruction whose stages have all started.
+fn past(g: u8) -> usize
+    ensures { λ r. ⌜ (r ≡ pick (eqb g 5) 1 0) × (r ≤ 1) ⌝ }
+{
+    if g == 5 { 1 } else { 0 }
+}
+
 // The whole play: s comes with nothing started and goes with the starts.
 pub fn run(h: Shape, kinds: &[u8], lat: &[u8], s1: &[u8], s2: &[u8], s: &mut [u16])
     requires { ⌜ (h .n ≤ 60) × (length (now kinds) ≡ 60) × (length (now lat) ≡ h .n) × (length (now s1) ≡ 60) × (length (now s2) ≡ 60) × (now s ≡ replicate 300 notStarted) ⌝ }
@@ -105,11 +110,4 @@ pub fn run(h: Shape, kinds: &[u8], lat: &[u8], s1: &[u8], s2: &[u8], s: &mut [u1
         t = sweep(h, kinds, lat, s1, s2, t, from, s, &mut stages, &mut ends);
         from += past(stages[from]);
     }
-}
-
-// 1 for an instruction whose stages have all started.
-fn past(g: u8) -> usize
-    ensures { λ r. ⌜ (r ≡ pick (eqb g 5) 1 0) × (r ≤ 1) ⌝ }
-{
-    if g == 5 { 1 } else { 0 }
 }

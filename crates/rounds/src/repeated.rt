@@ -1,7 +1,7 @@
 // The rounds.
 ghost use mathlib.Core.Path.{_≡_};
 ghost use mathlib.Core.List.{_++_};
-ghost use Prim.Native.Nat.{ℕ, _+_, _-_, _≤_, _<_};
+ghost use Prim.Native.Nat.{ℕ, _-_, _≤_, _<_};
 ghost use lib.ListN.{length, getD, drop};
 ghost use Rattle.record.specs.Refusals.{blockVerdict};
 ghost use Rattle.model.specs.Nodes.{entry, nodes};

@@ -33,7 +33,7 @@ fn tops_of(x: u64) -> Tops {
 }
 
 // A draw from 0 to top, which is at most 254.
-fn up_to(top: u64, x: u64) -> u8
+pub fn up_to(top: u64, x: u64) -> u8
     ensures { λ r. ⌜ r < 255 ⌝ }
 {
     let r = drawn(x) % (1 + top % 255);

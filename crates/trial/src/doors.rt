@@ -6,9 +6,9 @@ use crate::show::text;
 use record::Block;
 
 // Whether all numbers from `first` on are as they were filled in.
-fn untouched(s: &[u16; 1900], first: usize) -> bool {
+pub fn untouched(s: &[u16], first: usize) -> bool {
     let mut same = true;
-    for k in first..1900 {
+    for k in first..s.len() {
         same = same & (s[k] == 43690);
     }
     same

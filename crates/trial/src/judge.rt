@@ -8,7 +8,7 @@ pub struct Opinion {
     pub place: usize,
 }
 
-fn wide(x: u8) -> u64
+pub fn wide(x: u8) -> u64
     ensures { λ r. ⌜ r < 256 ⌝ }
 {
     x as u64

@@ -2,6 +2,7 @@
 ghost use Prim.Native.Nat.{_<_};
 use crate::crowded::crowded;
 use crate::made::next;
+use crate::plays::lengths;
 use crate::show::count;
 use crate::show::number;
 use crate::show::text;
@@ -11,7 +12,8 @@ fn two(low: u8, high: u8) -> usize {
     low as usize + 256 * (high as usize)
 }
 
-fn named(name: &[u8], n: usize) {
+// A number with what it is.
+pub fn named(name: &[u8], n: usize) {
     text(name);
     number(n);
 }
@@ -27,8 +29,10 @@ fn numbers(b: Block) {
     text(b"\n");
 }
 
+// How long a block's plays are, its bound and its counts.
 pub fn line(name: &[u8], b: Block) {
     text(name);
+    lengths(b);
     numbers(b);
 }
 
@@ -42,14 +46,14 @@ pub fn sizes() {
     }
 }
 
-fn wide(x: u16) -> u64
+pub fn wide(x: u16) -> u64
     ensures { λ r. ⌜ r < 65536 ⌝ }
 {
     x as u64
 }
 
 // The sum with one number more.
-fn summed(sum: u64, x: u16) -> u64 {
+pub fn summed(sum: u64, x: u16) -> u64 {
     (sum % 4294967291 * 65599 + wide(x)) % 4294967291
 }
 
@@ -65,9 +69,9 @@ fn sum_bytes(sum: u64, s: &[u8; 512]) -> u64 {
     t
 }
 
-fn sum_numbers(sum: u64, s: &[u16; 1800]) -> u64 {
+pub fn sum_numbers(sum: u64, s: &[u16]) -> u64 {
     let mut t = sum;
-    for k in 0..1800 {
+    for k in 0..s.len() {
         t = summed(t, s[k]);
     }
     t

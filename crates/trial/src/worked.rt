@@ -49,12 +49,16 @@ fn small() {
     line(b"D", two(entry(1, 1, 4, 1, 255), entry(1, 1, 4, 255, 1)));
 }
 
-fn four() {
+pub fn block_e() -> Block {
     let e1 = entry(0, 1, 4, 1, 255);
     let e2 = entry(1, 4, 4, 255, 1);
     let e3 = entry(1, 4, 4, 2, 255);
     let e4 = entry(2, 12, 12, 255, 2);
-    line(b"E", block(4, e1, e2, e3, e4));
+    block(4, e1, e2, e3, e4)
+}
+
+fn four() {
+    line(b"E", block_e());
     let integer = entry(0, 1, 1, 255, 255);
     let multiply = entry(1, 1, 1, 255, 255);
     let last = entry(1, 1, 3, 255, 255);

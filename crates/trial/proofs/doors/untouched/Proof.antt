@@ -1,14 +1,15 @@
 -- `trial::doors::untouched` is safe and ends. Assumes nothing.
 use Prim.Native.Nat.{_≤_, _-_}
 use borrow.Author.Needs.{needs}
+use lib.ListN.{length}
 use Rattle.trial.proofs.doors.untouched.Statement.{statement}
 use Rattle.trial.proofs.doors.untouched.Tie as tie
 
 abbrev Inv-loop : tie.InvT-loop
-Inv-loop s first same₀ k₀ same k = 0 ≤ k
+Inv-loop s first same₀ k₀ k-end same k = 0 ≤ k
 
 abbrev μ-loop : tie.MeasureT-loop
-μ-loop s first same₀ k₀ same k = 1900 - k
+μ-loop s first same₀ k₀ k-end same k = length s - k
 
 pub untouched-spec : {M : Type 1} → statement M
 untouched-spec =

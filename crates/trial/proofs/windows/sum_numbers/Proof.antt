@@ -1,14 +1,15 @@
 -- `trial::windows::sum_numbers` is safe and ends. Assumes nothing.
 use Prim.Native.Nat.{_≤_, _-_}
 use borrow.Author.Needs.{needs}
+use lib.ListN.{length}
 use Rattle.trial.proofs.windows.sum_numbers.Statement.{statement}
 use Rattle.trial.proofs.windows.sum_numbers.Tie as tie
 
 abbrev Inv-loop : tie.InvT-loop
-Inv-loop sum s t₀ k₀ t k = k ≤ 1800
+Inv-loop sum s t₀ k₀ k-end t k = k ≤ length s
 
 abbrev μ-loop : tie.MeasureT-loop
-μ-loop sum s t₀ k₀ t k = 1800 - k
+μ-loop sum s t₀ k₀ k-end t k = length s - k
 
 pub sum-numbers-spec : {M : Type 1} → statement M
 sum-numbers-spec =
