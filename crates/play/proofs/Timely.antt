@@ -1,18 +1,19 @@
 -- The kinds of an accepted block, and the times of its play. Assumes nothing.
 use Prim.Native.Nat.{ℕ, _+_, _-_, _*_, _≤_, _<_}
 use mathlib.Core.Path.{_≡_, refl}
-use mathlib.Core.List.{List}
+use mathlib.Core.List.{List, _++_}
 use native.Mathlib.Omega.{arith}
-use lib.ListN.{getD}
+use lib.ListN.{getD, List·getD-append}
+use Rattle.seqs.specs.Lists.{joined}
+use Rattle.seqs.proofs.Places.{length-joined, getD-joined}
 use Rattle.record.specs.Refusals.{blockVerdict}
 use Rattle.record.specs.declared.Block.{Block}
 use Rattle.record.proofs.Ranges.{ranges}
 use Rattle.model.specs.Nodes.{CM, node, nodes, entry, chosen}
-use Rattle.model.specs.Cycles.{State, finish, turns, cycle, play, playLength}
+use Rattle.model.specs.Cycles.{State, finish, turns, cycle, play, times, playLength, playTable}
 use Rattle.theory.proofs.Ends.{play-limit}
 use Rattle.links.proofs.Accepted.{Column, kind-column, few}
 use Rattle.play.specs.Running.{Chosen}
-use Rattle.links.proofs.Ready.{chosen-one}
 use Rattle.play.proofs.Listed.{chosen-least, chosen-most}
 
 module _ (b : Block) (z : blockVerdict b ≡ (0, 0)) where
@@ -28,17 +29,17 @@ module _ (b : Block) (z : blockVerdict b ≡ (0, 0)) where
     play-most v h =
         omega (arith, few b z, play-limit b z cap (chosen b l) (chosen-least b kinds l L (ranges b z)) (chosen-most b kinds l L) v h)
 
-  -- its length is one more than the start of its last node
-  module _ (l s : List ℕ) (e : s ≡ play b (chosen b l)) where
-    pub length-last : getD s (5 * b .n - 1) 0 + 1 ≡ playLength b (chosen b l)
-    unfolding playLength finish
-    length-last =
-        let v : 5 * b .n - 1 ≡ node CM (b .n - 1) = omega (arith, some) in
-        rw (v, chosen-one b l CM (b .n - 1) (omega arith) (λ k. omega arith), e) refl
-
-    pub last-most : ((v : ℕ) → v < nodes b → finish (chosen b l) s v ≤ 30780) → getD s (5 * b .n - 1) 0 ≤ 30780
-    unfolding finish
-    last-most h = omega (arith, h (5 * b .n - 1) (omega (arith, some)))
+  -- its length is the last number of its table
+  pub length-last : (l o out : List ℕ) → out ≡ playTable b (chosen b l) ++ o → getD out (15 * b .n - 1) 0 ≡ playLength b (chosen b l)
+  unfolding playTable playLength times
+  length-last l o out e =
+      let lat = chosen b l in
+      let s = play b lat in
+      let v : 5 * b .n - 1 ≡ node CM (b .n - 1) = omega (arith, some) in
+      let k : 15 * b .n - 1 ≡ 3 * (5 * b .n - 1) + 2 = omega (arith, some) in
+      let m = length-joined 3 (times b lat s) (λ u. refl) (nodes b) in
+      rw (e, List·getD-append (joined (nodes b) (times b lat s)) o 0 (15 * b .n - 1) (omega (arith, some, m)), k, getD-joined 3 (times b lat s) (λ u. refl) 0 (nodes b) (5 * b .n - 1) 2 (omega (arith, some)) (omega arith), v)
+      refl
 
 -- the state after a cycle, by its two parts
 pub cycled : (b : Block) (lat : ℕ → ℕ) (p : State) (t : ℕ) (s : List ℕ) → t ≡ p .t → s ≡ turns b lat t (p .starts) (nodes b)

@@ -21,20 +21,6 @@ use record::Answer;
 use record::Block;
 use record::Reason;
 
-// The starts of the play of a block.
-fn starts_of(b: Block, lat: &[u8]) -> [u16; 300]
-    requires { ⌜ (blockVerdict b ≡ (0, 0)) × (verdict (listTests b (now lat)) ≡ (0, 0)) ⌝ }
-    ensures { λ r. ⌜ (r ≡ play b (chosen b (now (lat .entry)))) × ((v : ℕ) → v < nodes b → finish (chosen b (now (lat .entry))) r v ≤ 30780) ⌝ }
-{
-    let h = links::shape_of(b);
-    let kinds = links::column(b, 0);
-    let s1 = links::sources(b, 4);
-    let s2 = links::sources(b, 5);
-    let mut s = [65535u16; 300];
-    run(h, &kinds, lat, &s1, &s2, &mut s);
-    s
-}
-
 // The play table of a block.
 fn table_into(b: Block, lat: &[u8], out: &mut [u16])
     requires { ⌜ (blockVerdict b ≡ (0, 0)) × (verdict (listTests b (now lat)) ≡ (0, 0)) × (15 * b .n ≤ length (now out)) ⌝ }
@@ -100,7 +86,7 @@ fn both_answer(b: Block, lat: &[u8]) -> Answer
     }
 }
 
-// The length of the play of a block under the latencies of a list.
+// The length of the play of a block under the latencies of a list: the last number of its table.
 pub fn play_length(b: Block, lat: &[u8]) -> Lasting
     ensures { λ r. ⌜ Lasts b (now (lat .entry)) r ⌝ }
 {
@@ -108,11 +94,12 @@ pub fn play_length(b: Block, lat: &[u8]) -> Lasting
     match answer {
         Answer::Refused(_) => Lasting { answer, cycles: 0 },
         Answer::Accepted => {
-            let s = starts_of(b, lat);
-            let last = s[5 * (b.n as usize) - 1];
+            let mut out = [0u16; 900];
+            table_into(b, lat, &mut out);
+            let last = 15 * (b.n as usize) - 1;
             Lasting {
                 answer,
-                cycles: last + 1,
+                cycles: out[last],
             }
         }
     }
