@@ -142,11 +142,10 @@ module _ (b : Block) (h : Shape) (s1 s2 : List ℕ) (U : Unpacked b h s1 s2) (ki
 
   -- a node that can start does: its unit is held until its finish
   pub units-start : (t : ℕ) (s ends : List ℕ) → length s ≡ 300 → Timed t s → Units b (chosen b l) t s ends → (i g : ℕ) → i < b .n → g < 5
-      → started s (node g i) ≡ false
       → can h (getD s1 i 0) (getD s2 i 0) (getD l i 0) (getD ends (getD kinds i 0) 0) t s i g ≡ true
       → Units b (chosen b l) t (set s (node g i) t) (ended ends g (getD kinds i 0) (getD l i 0) t)
   unfolding ended
-  units-start t s ends long w o i g m q waits c =
+  units-start t s ends long w o i g m q c =
       by-test (eqb g EX)
       (λ e.
       let ex : g ≡ EX = eqb-true g EX e in

@@ -162,7 +162,7 @@ module _ (b : Block) (h : Shape) (s1 s2 : List ℕ) (U : Unpacked b h s1 s2) (ki
             long = length-set s (node g i) t ∙ M .long;
             timed = timed-start t s (node g i) (M .timed);
             counted = counted';
-            held = units-start b h s1 s2 U kinds l L t s ends (M .long) (M .timed) (M .held) i g below five (waiting five) yes;
+            held = units-start b h s1 s2 U kinds l L t s ends (M .long) (M .timed) (M .held) i g below five yes;
             few = M .few;
             front = λ j m. stage-other b lat t (M .timed .now) s stages (M .counted) (M .long) few i g below refl five j (λ q. omega arith) ∙ M .front j m;
             later = omega (arith, soon);

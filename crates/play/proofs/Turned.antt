@@ -5,9 +5,9 @@ use mathlib.Core.Bool.{Bool, true, false, not, _&&_, and-false}
 use mathlib.Core.List.{List}
 use native.Mathlib.Numerals.{add-one}
 use lib.ListN.{length, getD, set, length-set}
-use borrow.Author.Tests.{le-leb, lt-leb, lt-ltb, eq-eqb, ne-eqb, not-true}
+use borrow.Author.Tests.{le-leb, lt-leb, lt-ltb, eq-eqb, ne-eqb}
 use Rattle.seqs.specs.Lists.{pick}
-use Rattle.seqs.proofs.Tests.{by-test, and-left, and-right}
+use Rattle.seqs.proofs.Tests.{by-test, and-right}
 use Rattle.record.specs.declared.Block.{Block}
 use Rattle.model.specs.Nodes.{node, nodes, chosen}
 use Rattle.model.specs.Cycles.{notStarted, start, started, turns}
@@ -69,8 +69,7 @@ module _ (b : Block) (h : Shape) (s1 s2 : List ℕ) (U : Unpacked b h s1 s2) (ki
         is = turned-is;
         timed = rw e (timed-start t s (node g i) (p .timed));
         held = rw e
-            (units-start b h s1 s2 U kinds l L t s ends (p .long) (p .timed) (p .held) i g m k
-            (not-true _ (and-left (not (started s (node g i))) _ e)) (and-right (not (started s (node g i))) _ e));
+            (units-start b h s1 s2 U kinds l L t s ends (p .long) (p .timed) (p .held) i g m k (and-right (not (started s (node g i))) _ e));
       })
       (λ e. record { long = rw e (p .long); is = turned-is; timed = rw e (p .timed); held = rw e (p .held) })
 

@@ -32,5 +32,5 @@ returns-3 c =
 pub cycle-spec : {M : Type 1} → statement M
 cycle-spec =
     tie.close
-    (tie.spec (λ c κs. search needs) (λ c. search needs) (λ c. search needs) (λ c. search needs) unfit-state-requires
-    returns next-state-requires returns-2 returns-3)
+    (tie.spec (λ c κs. search needs) (λ c. search needs) (λ c. search needs) (λ c. search needs)
+    unfit-state-requires returns next-state-requires returns-2 returns-3)

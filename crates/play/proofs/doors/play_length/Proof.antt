@@ -38,16 +38,5 @@ returns-2 c =
 pub play-length-spec : {M : Type 1} → statement M
 play-length-spec =
     tie.close
-    (tie.spec
-    (λ c κs. search needs)
-    (λ c. search needs)
-    (λ c. search needs)
-    (λ c. search needs)
-    table-into-requires
-    (λ c. search needs)
-    (λ c. search needs)
-    sub-last
-    (λ c. search needs)
-    array-read-t14
-    returns
-    returns-2)
+    (tie.spec (λ c κs. search needs) (λ c. search needs) (λ c. search needs) (λ c. search needs) table-into-requires
+    (λ c. search needs) (λ c. search needs) sub-last (λ c. search needs) array-read-t14 returns returns-2)

@@ -75,22 +75,7 @@ returns c b U L w =
 pub cycle-into-spec : {M : Type 1} → statement M
 cycle-into-spec =
     tie.close
-    (tie.spec
-    Inv-loop
-    μ-loop
-    unit-ends-requires
-    (λ c. search needs)
-    loop-holds
-    (λ c κs. search needs)
-    (λ c. search needs)
-    index-requires
-    (λ c. search needs)
-    (λ c. search needs)
-    (λ c. search needs)
-    (λ c. search needs)
-    node-turn-requires
-    (λ c. search needs)
-    (λ c. search needs)
-    loop-again
-    (λ c. search needs)
+    (tie.spec Inv-loop μ-loop unit-ends-requires (λ c. search needs) loop-holds (λ c κs. search needs)
+    (λ c. search needs) index-requires (λ c. search needs) (λ c. search needs) (λ c. search needs)
+    (λ c. search needs) node-turn-requires (λ c. search needs) (λ c. search needs) loop-again (λ c. search needs)
     returns)

@@ -58,23 +58,7 @@ returns c b t n L w =
 pub unit-ends-spec : {M : Type 1} → statement M
 unit-ends-spec =
     tie.close
-    (tie.spec
-    Inv-loop
-    μ-loop
-    loop-holds
-    (λ c. search needs)
-    (λ c κs. search needs)
-    (λ c. search needs)
-    (λ c. search needs)
-    (λ c. search needs)
-    (λ c. search needs)
-    (λ c. search needs)
-    mul-later-end-3
-    array-read-later-end
-    (λ c κs. search needs)
-    mul-ends
-    array-write-ends
-    (λ c. search needs)
-    (λ c. search needs)
-    loop-again
-    returns)
+    (tie.spec Inv-loop μ-loop loop-holds (λ c. search needs) (λ c κs. search needs) (λ c. search needs)
+    (λ c. search needs) (λ c. search needs) (λ c. search needs) (λ c. search needs) mul-later-end-3
+    array-read-later-end (λ c κs. search needs) mul-ends array-write-ends (λ c. search needs) (λ c. search needs)
+    loop-again returns)

@@ -73,19 +73,5 @@ returns-2 c b U L =
 pub run-spec : {M : Type 1} → statement M
 run-spec =
     tie.close
-    (tie.spec
-    Inv-loop
-    μ-loop
-    loop-holds
-    (λ c. search needs)
-    (λ c. search needs)
-    sweep-requires
-    (λ c. search needs)
-    (λ c κs. search needs)
-    add-from
-    loop-less
-    loop-again
-    (λ c. search needs)
-    returns
-    (λ c. search needs)
-    returns-2)
+    (tie.spec Inv-loop μ-loop loop-holds (λ c. search needs) (λ c. search needs) sweep-requires (λ c. search needs)
+    (λ c κs. search needs) add-from loop-less loop-again (λ c. search needs) returns (λ c. search needs) returns-2)
