@@ -4,7 +4,7 @@ ghost use lib.ListN.{getD};
 ghost use Rattle.record.specs.Layout.{noEntry};
 ghost use Rattle.record.specs.Refusals.{meaning, verdict, readBlock, writeVerdict, written};
 ghost use Rattle.analysis.specs.Result.{analyseTests, analysed};
-ghost use Rattle.play.specs.Latencies.{playTests};
+ghost use Rattle.play.specs.Refusals.{playTests};
 ghost use Rattle.play.specs.Promises.{played};
 use record::Answer;
 

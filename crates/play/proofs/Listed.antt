@@ -16,7 +16,7 @@ use Rattle.record.proofs.Verdicts.{none, refuse, pass, passed, refuse-lowest, p
 use Rattle.record.proofs.Ranges.{Ranges}
 use Rattle.model.specs.Nodes.{nodes, instruction, isEX, entry, latency, highest, chosen}
 use Rattle.links.proofs.Accepted.{Column, kind-column}
-use Rattle.play.specs.Latencies.{wrong, listTest, latencyTest, listTests}
+use Rattle.play.specs.Refusals.{wrong, listTest, latencyTest, listTests}
 use Rattle.play.specs.Running.{Chosen}
 
 -- ---- its verdict

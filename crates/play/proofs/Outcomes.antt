@@ -17,7 +17,7 @@ use Rattle.record.proofs.Verdicts.{none, refuse, pass, passed, both-accepted, a
 use Rattle.record.proofs.Answers.{number-above, refused-not, outcome-one}
 use Rattle.model.specs.Nodes.{chosen}
 use Rattle.model.specs.Cycles.{State, cycle, unfit, playLength, playTable}
-use Rattle.play.specs.Latencies.{listTest, latencyTest, stateTest, listTests, cycleTests, playTests, lengthTests}
+use Rattle.play.specs.Refusals.{listTest, latencyTest, stateTest, listTests, cycleTests, playTests, lengthTests}
 use Rattle.play.specs.Promises.{stateOf, stepped, played, lasting, Cycles, Plays, Lasts}
 use Rattle.play.specs.declared.PlayState.{PlayState}
 use Rattle.play.specs.declared.Step.{Step}
@@ -88,8 +88,8 @@ module _ (b : Block) (l : List ℕ) where
 module _ (b : Block) (l : List ℕ) (p : PlayState) where
   -- its tests are those of the length, and then that of the state
   cycle-tests : cycleTests b l (stateOf p) ≡ lengthTests b l ++ (stateTest b (stateOf p) ∷ [])
-  unfolding cycleTests lengthTests listTests
-  cycle-tests = sym (append-assoc (blockTests b) _ _)
+  unfolding cycleTests lengthTests
+  cycle-tests = sym (append-assoc (blockTests b) (listTests b l) (stateTest b (stateOf p) ∷ []))
 
   past-lists : verdict (lengthTests b l) ≡ (0, 0) → verdict (cycleTests b l (stateOf p)) ≡ verdict (stateTest b (stateOf p) ∷ [])
   unfolding lengthTests listTests blockTests headerTest entryTest listTest latencyTest

@@ -66,9 +66,15 @@ module _ (b : Block) (p : State) where
   unfit-after l = rw (lt-ltb 30779 (p .t) l) refl
 
   -- what a fit state is
+  pub fit-now : unfit b p ≡ false → p .t < 30780
+  unfolding unfit
+  fit-now e =
+      let a = or-left (ltb 30779 (p .t) || exists 0 300 (late p)) (exists (nodes b) 300 (started (p .starts))) e in
+      omega (arith, ltb-false 30779 (p .t) (or-left (ltb 30779 (p .t)) (exists 0 300 (late p)) a))
+
   pub fit-timed : length (p .starts) ≡ 300 → unfit b p ≡ false → Timed (p .t) (p .starts)
   unfolding unfit started
-  fit-timed l e = record { now = omega (arith, ltb-false 30779 (p .t) (or-left _ (exists 0 300 (late p)) a)); each = each }
+  fit-timed l e = record { now = fit-now e; each = each }
     where
       a : (ltb 30779 (p .t) || exists 0 300 (late p)) ≡ false
       a = or-left _ (exists (nodes b) 300 (started (p .starts))) e

@@ -1,4 +1,4 @@
-pub mod Latencies
+pub mod Refusals
 pub mod Steps
 pub mod Running
 pub mod Promises

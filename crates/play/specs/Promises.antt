@@ -9,7 +9,7 @@ use Rattle.record.specs.declared.Answer.{Answer}
 use Rattle.record.specs.declared.Block.{Block}
 use Rattle.model.specs.Nodes.{chosen}
 use Rattle.model.specs.Cycles.{State, cycle, playLength, playTable}
-use Rattle.play.specs.Latencies.{cycleTests, playTests, lengthTests}
+use Rattle.play.specs.Refusals.{cycleTests, playTests, lengthTests}
 use Rattle.play.specs.declared.PlayState.{PlayState}
 use Rattle.play.specs.declared.Step.{Step}
 use Rattle.play.specs.declared.Lasting.{Lasting}

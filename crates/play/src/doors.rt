@@ -7,7 +7,7 @@ ghost use lib.ListN.{length, drop};
 ghost use Rattle.record.specs.Refusals.{meaning, blockVerdict, verdict};
 ghost use Rattle.model.specs.Nodes.{nodes, chosen};
 ghost use Rattle.model.specs.Cycles.{finish, nothing, cycle, play, playTable, unfit};
-ghost use Rattle.play.specs.Latencies.{listTests, lengthTests};
+ghost use Rattle.play.specs.Refusals.{listTests, lengthTests};
 ghost use Rattle.play.specs.Promises.{stateOf, Cycles, Plays, Lasts};
 use crate::Lasting;
 use crate::PlayState;

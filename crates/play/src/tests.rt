@@ -8,7 +8,7 @@ ghost use Rattle.seqs.specs.Lists.{least};
 ghost use Rattle.record.specs.Refusals.{meaning, verdict};
 ghost use Rattle.record.specs.declared.Block.{Block};
 ghost use Rattle.model.specs.Cycles.{unfit};
-ghost use Rattle.play.specs.Latencies.{wrong, listTests};
+ghost use Rattle.play.specs.Refusals.{wrong, listTests};
 ghost use Rattle.play.specs.Promises.{stateOf};
 ghost use Rattle.play.specs.Steps.{unfitAt};
 use crate::PlayState;

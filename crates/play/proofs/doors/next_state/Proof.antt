@@ -5,7 +5,7 @@ use lib.ListN.{length, length-map}
 use Rattle.model.specs.Nodes.{chosen}
 use Rattle.play.specs.Promises.{stateOf}
 use Rattle.play.specs.Running.{Timed}
-use Rattle.play.proofs.Unfit.{fit-timed}
+use Rattle.play.proofs.Unfit.{fit-now, fit-timed}
 use Rattle.play.proofs.Listed.{listed, accepted-chosen}
 use Rattle.links.proofs.Accepted.{few, unpacked}
 use Rattle.play.proofs.Timely.{kinds-four, cycled}
@@ -32,7 +32,7 @@ cycle-into-requires c κs =
     let k = c .before .before .before .before .before .before .before .before .column in
     let x = c .before .before .before .before .before .before .before .sources in
     let y = c .before .before .before .before .before .before .sources2 in (
-      (omega (arith, fit-timed (a .b) (stateOf (a .p)) m (p .2) .now, c .before .wide .ensures .0), omega (arith, few (a .b) (p .0)), k .ok .1 .0 .1, omega (arith, listed (a .b) (a .lat .now) (p .1)), x .ok .1 .0 .1, y .ok .1 .0 .1, m),
+      (omega (arith, fit-now (a .b) (stateOf (a .p)) (p .2), c .before .wide .ensures .0), omega (arith, few (a .b) (p .0)), k .ok .1 .0 .1, omega (arith, listed (a .b) (a .lat .now) (p .1)), x .ok .1 .0 .1, y .ok .1 .0 .1, m),
       (λ i l. kinds-four (a .b) (p .0) (k .result) (k .ensures) i (omega arith), x .ensures .1, y .ensures .1),
     )
 
@@ -40,9 +40,7 @@ add-t20 : tie.Need-add-t20
 add-t20 c =
     let a = c .before .before .before .before .before .before .before .before .before .before .before .before .before .before .args in
     let p = c .before .before .before .before .before .before .before .before .before .before .before .before .before .before .pre in
-    let s = a .p .starts in
-    let m : length s ≡ 300 = sym (length-map s _) ∙ c .before .before .before .before .before .before .before .before .before .before .before .before .before .before .good .1 .1 .0 .1 .1 .1 .0 .1 .0 .1 in
-    record { fits = omega (arith, fit-timed (a .b) (stateOf (a .p)) m (p .2) .now) }
+    record { fits = omega (arith, fit-now (a .b) (stateOf (a .p)) (p .2)) }
 
 returns : tie.Need-returns
 returns c =

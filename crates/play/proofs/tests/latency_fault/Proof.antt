@@ -5,7 +5,7 @@ use Prim.Native.Nat.{ℕ, _≤_, _<_, _-_}
 use native.Mathlib.Omega.{arith}
 use borrow.Author.Count.{below-none, below-more}
 use Rattle.seqs.proofs.Least.{least-here, least-none}
-use Rattle.play.specs.Latencies.{wrong}
+use Rattle.play.specs.Refusals.{wrong}
 use borrow.Author.Needs.{needs}
 use Rattle.play.proofs.tests.latency_fault.Statement.{statement}
 use Rattle.play.proofs.tests.latency_fault.Tie as tie

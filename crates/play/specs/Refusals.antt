@@ -31,7 +31,7 @@ listTests b l = listTest b l ∷ latencyTest b l ∷ []
 
 -- a cycle makes tests 4, 5, 7, 8 and 9
 unfoldable pub cycleTests : Block → List ℕ → State → List Test
-cycleTests b l p = blockTests b ++ (listTest b l ∷ latencyTest b l ∷ stateTest b p ∷ [])
+cycleTests b l p = blockTests b ++ (listTests b l ++ (stateTest b p ∷ []))
 
 -- a play makes tests 4, 5, 6, 7 and 8: "at least .. 15 × n for a play"
 unfoldable pub playTests : Block → List ℕ → List ℕ → List Test
