@@ -6,4 +6,5 @@ pub mod Reached
 pub mod Chains
 pub mod Lines
 pub mod Settled
+pub mod Rules
 pub mod Limit

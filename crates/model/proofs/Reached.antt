@@ -129,3 +129,12 @@ module _ (b : Block) (A : Ranges b) (i j : ℕ) (hi : i < b .n) (hj : j < b .n) 
       (and-both (not (eqb i j)) _ (ap not (ne-eqb i j (c .two))) (eq-eqb (entry b i .kind) (entry b j .kind) (c .kinds)))
       (unmarked i j hi hj (c .no-path)))
       (unmarked j i hj hi (c .no-path-back))
+
+  -- SO TWO EX OF ONE KIND CONTEND, OR A PATH LEADS FROM ONE TO THE OTHER
+  pub contend-or-path : (i ≡ j → ⊥) → entry b i .kind ≡ entry b j .kind → (has (contending b) i j ≡ true) ⊎ (Path b (node EX i) (node EX j) ⊎ Path b (node EX j) (node EX i))
+  unfolding contend
+  contend-or-path two kinds =
+      by-test (has (paths b) i j) (λ t. inr (inl (paths-path b A i j hi hj t)))
+      (λ f.
+      by-test (has (paths b) j i) (λ t. inr (inr (paths-path b A j i hj hi t)))
+      (λ g. inl (contending-at b i j hi hj ∙ rw (ne-eqb i j two, eq-eqb _ _ kinds, f, g) refl)))

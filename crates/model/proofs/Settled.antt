@@ -91,7 +91,7 @@ module _ (b : Block) (con : Pairs) where
 
 module _ (b : Block) where
   -- at first nothing is known, so all contending pairs are rivals
-  all-rivals : count (b .n) (rival (contending b) []) ≡ pairCount b
+  pub all-rivals : count (b .n) (rival (contending b) []) ≡ pairCount b
   unfolding rival pairCount
   all-rivals = count-ext (b .n) (rival (contending b) []) (has (contending b)) (λ i j l m. and-true (has (contending b) i j))
 

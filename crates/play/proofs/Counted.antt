@@ -15,7 +15,7 @@ use Rattle.record.specs.declared.Block.{Block}
 use Rattle.model.specs.Nodes.{EX, node, finishEdges, finishInto}
 use Rattle.model.specs.Cycles.{start, started, finish, begins}
 use Rattle.model.proofs.Predecessors.{finish-on}
-use Rattle.theory.proofs.Turns.{begins-means, started-yes}
+use Rattle.schedules.proofs.Turns.{begins-means, started-yes}
 use Rattle.play.specs.Running.{Stages}
 use Rattle.play.proofs.Passing.{started-stays}
 

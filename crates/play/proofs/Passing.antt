@@ -16,8 +16,8 @@ use Rattle.record.proofs.Ranges.{Ranges}
 use Rattle.model.specs.Nodes.{EX, nodes, node, instruction, entry}
 use Rattle.model.specs.Cycles.{State, notStarted, start, started, finish, runs, free, begins, turns, cycle, nothing, over, playOn, play}
 use Rattle.model.proofs.Predecessors.{finish-below}
-use Rattle.theory.proofs.Turns.{begins-means, means-begins, started-not}
-use Rattle.theory.proofs.Schedule.{over-all, all-over}
+use Rattle.schedules.proofs.Turns.{begins-means, means-begins, started-not}
+use Rattle.schedules.proofs.Schedule.{over-all, all-over}
 
 -- ---- turns
 module _ (b : Block) (lat : ℕ → ℕ) (t : ℕ) (s₀ s : List ℕ) where
@@ -115,7 +115,7 @@ module _ (b : Block) (lat : ℕ → ℕ) where
   unfolding turns
   over-turns t s h = sym (turns-skip b lat t s s 0 (nodes b) (omega arith) refl (λ v _ l. started-stays b lat t s v (over-all b (at t s) h v l)))
 
-  over-on : (m : ℕ) (p : State) → over b p ≡ true → playOn m b lat p ≡ p
+  pub over-on : (m : ℕ) (p : State) → over b p ≡ true → playOn m b lat p ≡ p
   unfolding playOn
   over-on zero p h = refl
   over-on (suc m) p h = rw h refl

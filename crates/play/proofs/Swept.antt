@@ -16,7 +16,7 @@ use Rattle.record.proofs.Ranges.{Ranges, ranges}
 use Rattle.model.specs.Nodes.{EX, node, nodes, chosen, orderEdges, orderInto}
 use Rattle.model.specs.Cycles.{notStarted, start, started, finish, begins, turns}
 use Rattle.model.proofs.Predecessors.{edge-on}
-use Rattle.theory.proofs.Turns.{begins-means, started-not}
+use Rattle.schedules.proofs.Turns.{begins-means, started-not}
 use Rattle.links.specs.Unpacked.{Unpacked}
 use Rattle.links.specs.declared.Shape.{Shape}
 use Rattle.play.specs.Running.{Chosen, Swept}

@@ -11,7 +11,7 @@ use Rattle.record.specs.declared.Block.{Block}
 use Rattle.record.proofs.Ranges.{ranges}
 use Rattle.model.specs.Nodes.{CM, node, nodes, entry, chosen}
 use Rattle.model.specs.Cycles.{State, finish, turns, cycle, play, times, playLength, playTable}
-use Rattle.theory.proofs.Ends.{play-limit}
+use Rattle.schedules.proofs.Ends.{play-limit}
 use Rattle.links.proofs.Accepted.{Column, kind-column, few}
 use Rattle.play.specs.Running.{Chosen}
 use Rattle.play.proofs.Listed.{chosen-least, chosen-most}

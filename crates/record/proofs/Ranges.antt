@@ -28,6 +28,7 @@ pub record Ranges (b : Block) : Type 0 where
   pub f : (1 ≤ b .f) × (b .f ≤ 4)
   pub d : (1 ≤ b .d) × (b .d ≤ 4)
   pub c : (1 ≤ b .c) × (b .c ≤ 4)
+  pub origin : (1 ≤ b .origin) × (b .origin ≤ 2)
   pub instruction : (i : ℕ) → i < b .n → Instruction b i
 
 in-range : (l h x : ℕ) → (ltb x l || ltb h x) ≡ false → (l ≤ x) × (x ≤ h)
@@ -67,5 +68,6 @@ module _ (b : Block) (z : blockVerdict b ≡ (0, 0)) where
         f = in-range 1 4 (b .f) (header 7 (omega arith) (omega arith));
         d = in-range 1 4 (b .d) (header 8 (omega arith) (omega arith));
         c = in-range 1 4 (b .c) (header 9 (omega arith) (omega arith));
+        origin = in-range 1 2 (b .origin) (header 10 (omega arith) (omega arith));
         instruction = instruction (n .1);
       }

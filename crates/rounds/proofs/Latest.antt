@@ -1,16 +1,15 @@
 -- The rules of the two time lines as the code works them out: what they make of each stage, and the latest start of an EX
--- without the cases of no later and no earlier ones, which is right as no latency is 0. Assumes nothing.
-use Prim.Native.Nat.{ℕ, _+_, _-_, _*_, _/_, _%_, _≤_, _<_, min, max}
+-- from rows. Assumes nothing.
+use Prim.Native.Nat.{ℕ, _+_, _*_, _/_, _%_, _≤_, _<_}
 use mathlib.Core.Path.{_≡_, refl, ap, _∙_, sym}
 use mathlib.Core.Bool.{Bool}
-use mathlib.Core.List.{List, [], _∷_, map}
-use mathlib.Core.Logic.{inl}
+use mathlib.Core.List.{List, map}
 use native.Mathlib.Omega.{arith}
 use lib.ListN.{getD}
 use borrow.Author.Tests.{ne-eqb}
-use Rattle.seqs.specs.Lists.{In, those, inOrder}
-use Rattle.seqs.specs.Sums.{largest, total, none}
-use Rattle.seqs.proofs.Members.{in-map, map-ext}
+use Rattle.seqs.specs.Lists.{those, inOrder}
+use Rattle.seqs.specs.Sums.{largest}
+use Rattle.seqs.proofs.Members.{map-ext}
 use Rattle.seqs.proofs.Those.{those-in}
 use Rattle.seqs.proofs.Growing.{those-ext}
 use Rattle.seqs.proofs.InOrder.{getD-inOrder}
@@ -19,8 +18,9 @@ use Rattle.record.proofs.Ranges.{Ranges}
 use Rattle.model.specs.Nodes.{IF, ID, EX, WB, CM, nodes, node, instruction, entry, source, lowest, highest}
 use Rattle.model.specs.Paths.{Pairs}
 use Rattle.model.specs.Cycles.{start, finish, ready}
-use Rattle.model.specs.Rounds.{earliest, R, rival, B, behind, latestEX, latestStart, round}
+use Rattle.model.specs.Rounds.{earliest, R, rival, latestEX, latestStart, round}
 use Rattle.model.proofs.Lines.{ready-looks, latest-looks}
+use Rattle.model.proofs.Rules.{EX-short}
 use Rattle.model.proofs.Limit.{earliest-limit, round-limit}
 use Rattle.links.specs.Stages.{readyEX, readyWB}
 use Rattle.links.specs.Unpacked.{code}
@@ -29,19 +29,9 @@ use Rattle.rounds.specs.Rows.{Even, finishEX}
 use Rattle.rounds.specs.Steps.{latestOf}
 use Rattle.rounds.proofs.Lined.{Stepped}
 
--- ---- the short forms
-pub B-short : (r : ℕ) (xs : List ℕ) → ((x : ℕ) → In x xs → 1 ≤ x) → B r xs ≡ r + (max (largest xs) 1 - 1)
-unfolding B none largest
-B-short r [] h = omega arith
-B-short r (x ∷ xs) h = omega (arith, h x (inl refl))
-
-pub behind-short : (p : ℕ) (f g : ℕ → ℕ) (es : List ℕ) → behind p (map f es) (map g es) ≡ min (p + total (map f es)) (max p (largest (map g es)))
-unfolding behind none total largest
-behind-short p f g [] = omega arith
-behind-short p f g (e ∷ es) = refl
-
+-- ---- the latest start of an EX
 module _ (b : Block) (A : Ranges b) where
-  -- the latest start of EX(i), from rows: his has the highest latencies
+  -- his has the highest latencies
   pub latest-short : (p : ℕ → ℕ → Bool) → Even (b .n) p → (his s row : List ℕ) (most i r : ℕ) → i < b .n
       → ((j : ℕ) → j < b .n → getD his j 0 ≡ entry b j .hi)
       → row ≡ those 0 i (p i) → most ≡ largest (map (λ j. getD his j 0) (those (i + 1) (b .n) (λ j. p j i)))
@@ -58,13 +48,7 @@ module _ (b : Block) (A : Ranges b) where
       = map-ext (λ j. getD his j 0) f (those 0 i (p i)) (λ j k. hi j (omega (arith, those-in (p i) 0 i j k .1))) in
       let ends : map (λ j. start s (node EX j) + getD his j 0) (those 0 i (p i)) ≡ map (λ j. start s (node EX j) + f j) (those 0 i (p i))
       = map-ext (λ j. start s (node EX j) + getD his j 0) (λ j. start s (node EX j) + f j) (those 0 i (p i)) (λ j k. ap (λ (x : ℕ). start s (node EX j) + x) (hi j (omega (arith, those-in (p i) 0 i j k .1)))) in
-      let top : (x : ℕ) → In x (map f late) → 1 ≤ x
-      = λ x k.
-      let w = in-map f x late k in
-      let a = A .instruction (w .0) (those-in (p i) (i + 1) (b .n) (w .0) (w .1) .1) in
-      omega (arith, w .2, highest-EX b (w .0), a .lo, a .hi) in
-      rw (q, m, turned, lates, sums, ends)
-      (sym (behind-short (B r (map f late)) f (λ j. start s (node EX j) + f j) (those 0 i (p i)) ∙ rw (B-short r (map f late) top) refl))
+      rw (q, m, turned, lates, sums, ends) (sym (EX-short b A p s i r))
 
 -- ---- what the rules make of the stages
 module _ (b : Block) (A : Ranges b) (cap : (i : ℕ) → entry b i .hi ≤ 255) where

@@ -9,10 +9,13 @@ use lib.ListN.{length, getD, take, drop, set, replicate}
 use lib.Seq.{getD-drop}
 use Rattle.seqs.specs.Lists.{In}
 
+pub getD-all : {A : Type 0} (d : A) (n i : ℕ) → getD (replicate n d) i d ≡ d
+getD-all d zero i = refl
+getD-all d (suc n) zero = refl
+getD-all d (suc n) (suc i) = getD-all d n i
+
 pub getD-zeros : (n i : ℕ) → getD (replicate {A = ℕ} n 0) i 0 ≡ 0
-getD-zeros zero i = refl
-getD-zeros (suc n) zero = refl
-getD-zeros (suc n) (suc i) = getD-zeros n i
+getD-zeros n i = getD-all 0 n i
 
 -- an element by its index
 pub getD-in : (xs : List ℕ) (k : ℕ) → k < length xs → In (getD xs k 0) xs

@@ -1,1 +1,1 @@
-// Why plays stay inside their limits: every play is a schedule, and every schedule ends. No code: proofs/ is what it holds.
+// The theorems that the bench is for. No code: specs/ has the words that they use, proofs/ has them.

@@ -1,25 +1,26 @@
 -- The net of an accepted block: its nodes, edges and units as the model has them. Lower limits of the latencies are left
 -- open. Assumes nothing.
 use Prim.Native.Nat.{ℕ, zero, suc, _+_, _*_, _≤_, _<_}
-use mathlib.Core.Path.{_≡_, refl, ap}
+use mathlib.Core.Path.{_≡_, refl, ap, _∙_}
 use mathlib.Core.Bool.{Bool, true, false}
-use mathlib.Core.List.{List, [], _∷_, map}
+use mathlib.Core.List.{List, [], _∷_, map, map-append}
 use native.Mathlib.Omega.{arith}
 use native.Mathlib.Numerals.{add-one}
 use lib.Dec.{T}
-use lib.ListN.{length, length-append}
+use lib.ListN.{length}
 use borrow.Author.Tests.{ne-eqb}
 use Rattle.seqs.specs.Lists.{In, pick, those}
 use Rattle.seqs.proofs.Members.{in-map, map-in}
-use Rattle.seqs.proofs.Sums.{largest-in, largest-most}
+use Rattle.seqs.specs.Sums.{total}
+use Rattle.seqs.proofs.Sums.{largest-in, largest-most, total-append}
 use Rattle.seqs.proofs.Growing.{those-none, those-more}
 use Rattle.record.specs.declared.Block.{Block}
 use Rattle.record.proofs.Ranges.{Ranges}
 use Rattle.model.specs.Nodes.{EX, nodes, node, stage, instruction, isEX, entry, highest, finishInto, orderInto}
 use Rattle.model.specs.Cycles.{start, finish, units, ready}
 use Rattle.model.proofs.Predecessors.{finish-below, order-below, order-off-EX}
-use Rattle.theory.proofs.Sum.{wt, sumN, count}
-use Rattle.theory.proofs.Net.{Net, Done}
+use Rattle.schedules.proofs.Sum.{wt, sumN, count}
+use Rattle.schedules.proofs.Net.{Net, Done}
 
 -- ---- a test that passes, said in two ways
 pub T-true : (t : Bool) → T t → t ≡ true
@@ -72,33 +73,49 @@ module _ (b : Block) (A : Ranges b) (lo : ℕ → ℕ) (pos : (v : ℕ) → v < 
         largest-most x (map (start s) (orderInto b v)) (λ y i. let r = in-map (start s) y (orderInto b v) i in omega (arith, r .2, d .ord (r .0) (r .1))),
       )
 
--- ---- of nodes all of which are EX there are as many as of their instructions
-one-length : (t : Bool) (k : ℕ) → length (pick t (k ∷ []) []) ≡ wt t 1
-one-length true k = refl
-one-length false k = refl
+-- ---- what is summed over nodes all of which are EX is summed over their instructions
+one-more : (t : Bool) (g : ℕ → ℕ) (k : ℕ) → total (map g (pick t (k ∷ []) [])) ≡ wt t (g k)
+unfolding total
+one-more true g k = omega arith
+one-more false g k = refl
 
-length-more : (q : ℕ → Bool) (n : ℕ) → length (those 0 (suc n) q) ≡ length (those 0 n q) + wt (q n) 1
-length-more q n =
-    rw (← add-one n, those-more q 0 n (omega arith), length-append (those 0 n q) (pick (q n) (n ∷ []) []), one-length (q n) n) refl
+pub total-more : (q : ℕ → Bool) (g : ℕ → ℕ) (n : ℕ) → total (map g (those 0 (suc n) q)) ≡ total (map g (those 0 n q)) + wt (q n) (g n)
+total-more q g n =
+    rw (
+      ← add-one n,
+      those-more q 0 n (omega arith),
+      map-append g (those 0 n q) (pick (q n) (n ∷ []) []),
+      total-append (map g (those 0 n q)) (map g (pick (q n) (n ∷ []) [])),
+      one-more (q n) g n,
+    ) refl
 
 module _ (p : ℕ → Bool) (off : (u : ℕ) → isEX u ≡ false → p u ≡ false) where
-  none-off : (u : ℕ) → (stage u ≡ EX → ⊥) → wt (p u) 1 ≡ 0
-  none-off u h = let e = off u (ne-eqb (stage u) EX h) in rw e refl
+  module _ (f : ℕ → ℕ) where
+    none-off : (u : ℕ) → (stage u ≡ EX → ⊥) → wt (p u) (f u) ≡ 0
+    none-off u h = let e = off u (ne-eqb (stage u) EX h) in rw e refl
+
+    pub sum-EX : (n : ℕ) → sumN (5 * n) (λ u. wt (p u) (f u)) ≡ total (map (λ j. f (node EX j)) (those 0 n (λ j. p (node EX j))))
+    unfolding sumN total
+    sum-EX zero = rw those-none refl
+    sum-EX (suc n) =
+        let e : 5 * suc n ≡ suc (suc (suc (suc (suc (5 * n))))) = omega arith in
+        let m : 5 * n + 2 ≡ suc (suc (5 * n)) = omega arith in
+        let same = ap (λ (u : ℕ). wt (p u) (f u)) m in
+        rw e
+        omega (
+          arith,
+          sum-EX n,
+          total-more (λ j. p (node EX j)) (λ j. f (node EX j)) n,
+          none-off (5 * n) (λ q. omega arith),
+          none-off (suc (5 * n)) (λ q. omega arith),
+          none-off (suc (suc (suc (5 * n)))) (λ q. omega arith),
+          none-off (suc (suc (suc (suc (5 * n))))) (λ q. omega arith),
+        )
+
+  ones : (xs : List ℕ) → total (map (λ j. 1) xs) ≡ length xs
+  unfolding total
+  ones [] = refl
+  ones (x ∷ xs) = omega (arith, ones xs)
 
   pub count-EX : (n : ℕ) → count (5 * n) p ≡ length (those 0 n (λ j. p (node EX j)))
-  unfolding sumN
-  count-EX zero = rw those-none refl
-  count-EX (suc n) =
-      let e : 5 * suc n ≡ suc (suc (suc (suc (suc (5 * n))))) = omega arith in
-      let m : 5 * n + 2 ≡ suc (suc (5 * n)) = omega arith in
-      let same = ap (λ (u : ℕ). wt (p u) 1) m in
-      rw e
-      omega (
-        arith,
-        count-EX n,
-        length-more (λ j. p (node EX j)) n,
-        none-off (5 * n) (λ q. omega arith),
-        none-off (suc (5 * n)) (λ q. omega arith),
-        none-off (suc (suc (suc (5 * n)))) (λ q. omega arith),
-        none-off (suc (suc (suc (suc (5 * n))))) (λ q. omega arith),
-      )
+  count-EX n = sum-EX (λ u. 1) n ∙ ones (those 0 n (λ j. p (node EX j)))

@@ -41,6 +41,16 @@ unfolding sumN
 sum-le zero f g h = omega arith
 sum-le (suc n) f g h = omega (arith, sum-le n f g (λ i l. h i (omega arith)), h n (omega arith))
 
+-- what is 0 from m on is summed below m
+pub sum-front : (m n : ℕ) (f : ℕ → ℕ) → m ≤ n → ((i : ℕ) → m ≤ i → f i ≡ 0) → sumN n f ≡ sumN m f
+unfolding sumN
+sum-front m zero f l h = let e : m ≡ 0 = omega arith in rw e refl
+sum-front m (suc n) f l h = go (decLe m n) (λ k. sum-front m n f k h)
+  where
+    go : Dec (m ≤ n) → (m ≤ n → sumN n f ≡ sumN m f) → sumN n f + f n ≡ sumN m f
+    go (yes k) ih = omega (arith, ih k, h n k)
+    go (no k) ih = let e : m ≡ suc n = omega arith in rw e refl
+
 pub sum-add : (n : ℕ) (f g : ℕ → ℕ) → sumN n (λ i. f i + g i) ≡ sumN n f + sumN n g
 unfolding sumN
 sum-add zero f g = refl
@@ -98,7 +108,8 @@ swap n (suc k) p m h =
     )
 
 -- THE COUNTING LEMMA. At each of the k times a, a + 1 .. at least m of the n windows are open; the window of u is open from
--- x u on, and l u long
+-- x u on, and l u long. Summed over the times, the open windows are m * k at least. Summed over the windows first, each is open
+-- at no more of the times than it is long
 pub area : (n m a k : ℕ) (p : ℕ → ℕ → Bool) (x l : ℕ → ℕ)
     → ((i : ℕ) → i < k → m ≤ count n (p i))
     → ((i u : ℕ) → i < k → u < n → T (p i u) → (x u ≤ a + i) × (a + i < x u + l u))

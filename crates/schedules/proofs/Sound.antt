@@ -7,8 +7,8 @@ use native.Mathlib.Omega.{arith}
 use native.Mathlib.Decide.{decLe}
 use native.Mathlib.Nat.{le-div-iff-mul-le}
 use lib.Dec.{T, ltb, ltb→lt, lt→ltb}
-use Rattle.theory.proofs.Sum.{wt, wt-on, wt-mono, sumN, maxN, count, sum-le, count-mono, count-find, max-ge, area}
-use Rattle.theory.proofs.Net.{Net, Fits, Way, by-fin, by-ord, then-fin, then-ord, Done, done-mono, busy, Busy, busy→, →busy, Sched, and-right, and-both}
+use Rattle.schedules.proofs.Sum.{wt, wt-on, wt-mono, sumN, maxN, count, sum-le, count-mono, count-find, max-ge, area}
+use Rattle.schedules.proofs.Net.{Net, Fits, Way, by-fin, by-ord, then-fin, then-ord, Done, done-mono, busy, Busy, busy→, →busy, Sched, and-right, and-both}
 
 -- earliest ready times: the least that the edges allow
 pub record Early (G : Net) (ER : ℕ → ℕ) : Type 0 where

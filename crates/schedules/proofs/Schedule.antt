@@ -1,5 +1,9 @@
 -- Every play of the model is a schedule, seen at the cycle number of its state: each node has its start, or that number
 -- where it has not started. A play stops where all have started, or after the cycles that it is allowed. Assumes nothing.
+--
+-- Why: before cycle 0 nothing has started, and there is nothing to claim. Each cycle takes a schedule to a schedule
+-- (next-sched, turns-next). Where all have started, the cycle number of the state no longer matters, and the starts alone are
+-- a schedule at every later time.
 use Prim.Native.Nat.{ℕ, zero, suc, _+_, _≤_, _<_}
 use mathlib.Core.Path.{_≡_, refl, sym, ap}
 use mathlib.Core.Bool.{Bool, true, not}
@@ -14,12 +18,12 @@ use Rattle.record.specs.declared.Block.{Block}
 use Rattle.record.proofs.Ranges.{Ranges}
 use Rattle.model.specs.Nodes.{nodes}
 use Rattle.model.specs.Cycles.{State, notStarted, start, started, turns, cycle, nothing, over, playOn}
-use Rattle.theory.proofs.Sum.{count, count-mono}
-use Rattle.theory.proofs.Net.{Net, Fits, Done, busy, busy→, →busy, Sched}
-use Rattle.theory.proofs.Step.{empty-sched, next-sched}
-use Rattle.theory.proofs.Graph.{net}
-use Rattle.theory.proofs.Turns.{seen, Known, started-not, turns-length}
-use Rattle.theory.proofs.Cycle.{turns-next, turns-known}
+use Rattle.schedules.proofs.Sum.{count, count-mono}
+use Rattle.schedules.proofs.Net.{Net, Fits, Done, busy, busy→, →busy, Sched}
+use Rattle.schedules.proofs.Step.{empty-sched, next-sched}
+use Rattle.schedules.proofs.Graph.{net}
+use Rattle.schedules.proofs.Turns.{seen, Known, started-not, turns-length}
+use Rattle.schedules.proofs.Cycle.{turns-next, turns-known}
 
 -- ---- a schedule in which all have started is one at every horizon that lies above the starts
 module _ (G : Net) (lat : ℕ → ℕ) where

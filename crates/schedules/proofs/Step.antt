@@ -1,4 +1,9 @@
 -- One cycle takes a schedule of H cycles to one of H + 1. Assumes nothing.
+--
+-- Why: what started before H keeps its start, so for times before H nothing changes: the same nodes are ready by then, and the
+-- same nodes run. What is left is time H. A node that starts at H may: it is ready by H, and fewer of its kind run than there
+-- are units. A node that is left at H may not: off EX it is not ready by H; at EX it is not, or all units are taken. These are
+-- the claims of a schedule at H.
 use Prim.Native.Nat.{ℕ, zero, suc, _≤_, _<_}
 use mathlib.Core.Path.{_≡_, sym}
 use mathlib.Core.Bool.{not}
@@ -6,8 +11,8 @@ use mathlib.Core.Logic.{_⊎_, inl, inr}
 use native.Mathlib.Omega.{arith}
 use native.Mathlib.Decide.{decLe, decLt}
 use lib.Dec.{T, T-not}
-use Rattle.theory.proofs.Sum.{count, count-mono}
-use Rattle.theory.proofs.Net.{Net, Fits, Done, done-mono, busy, busy→, →busy, Sched}
+use Rattle.schedules.proofs.Sum.{count, count-mono}
+use Rattle.schedules.proofs.Net.{Net, Fits, Done, done-mono, busy, busy→, →busy, Sched}
 
 -- v may start in cycle H of a play whose starts, with those of this cycle so far, are s′
 pub record May (G : Net) (lat : ℕ → ℕ) (H : ℕ) (s′ : ℕ → ℕ) (v : ℕ) : Type 0 where

@@ -1,4 +1,9 @@
 -- One cycle of the model is a step of a schedule: a node starts in it if and only if it may. Assumes nothing.
+--
+-- Why: at the turn of v the nodes before v have had their turns, and those from v on have the starts of the cycle before. The
+-- predecessors of v stand before it, so what the turn sees of them is what the cycle leaves. Of the EX of v's kind the turn
+-- sees those that started before this cycle, and of this cycle's those before v: just those that a schedule calls busy when v
+-- has its turn. So the tests of the turn are those of a step.
 use Prim.Native.Nat.{ℕ, suc, _+_, _*_, _/_, _%_, _≤_, _<_}
 use mathlib.Core.Path.{_≡_, refl, sym, ap, _∙_}
 use mathlib.Core.Bool.{Bool, true, false, _&&_, false≢true}
@@ -16,11 +21,11 @@ use Rattle.record.specs.declared.Block.{Block}
 use Rattle.record.proofs.Ranges.{Ranges}
 use Rattle.model.specs.Nodes.{EX, nodes, node, stage, instruction, isEX, entry}
 use Rattle.model.specs.Cycles.{notStarted, start, started, finish, runs, units, free, turns}
-use Rattle.theory.proofs.Sum.{count}
-use Rattle.theory.proofs.Net.{Net, busy, Busy, busy→, →busy}
-use Rattle.theory.proofs.Step.{May, Next}
-use Rattle.theory.proofs.Graph.{T-true, true-T, net, count-EX}
-use Rattle.theory.proofs.Turns.{started-yes, started-not, seen, Known, begun, turns-later, turns-over, Begins, begins-means, means-begins}
+use Rattle.schedules.proofs.Sum.{count}
+use Rattle.schedules.proofs.Net.{Net, busy, Busy, busy→, →busy}
+use Rattle.schedules.proofs.Step.{May, Next}
+use Rattle.schedules.proofs.Graph.{T-true, true-T, net, count-EX}
+use Rattle.schedules.proofs.Turns.{started-yes, started-not, seen, Known, begun, turns-later, turns-over, Begins, begins-means, means-begins}
 
 -- ---- one cycle
 module _ (b : Block) (A : Ranges b) (lo : ℕ → ℕ) (pos : (v : ℕ) → v < nodes b → 1 ≤ lo v) (lat : ℕ → ℕ) (H : ℕ) (early : H < notStarted)

@@ -14,12 +14,12 @@ use Rattle.record.proofs.Ranges.{Ranges, ranges}
 use Rattle.model.specs.Nodes.{nodes, instruction, isEX, entry, highest}
 use Rattle.model.specs.Cycles.{State, start, finish, nothing, playOn, play}
 use Rattle.model.proofs.Limit.{readyLimit, finishLimit, limits-grow, late, room, end-limit, highest-most, most-255}
-use Rattle.theory.proofs.Sum.{wt, max-least}
-use Rattle.theory.proofs.Net.{Net, Fits, Sched}
-use Rattle.theory.proofs.Sound.{earlier, base, early-last, Round, finish-bound}
-use Rattle.theory.proofs.Graph.{T-true, net}
-use Rattle.theory.proofs.Turns.{seen}
-use Rattle.theory.proofs.Schedule.{sched-ended, Played, Stopped, nothing-played, playOn-played}
+use Rattle.schedules.proofs.Sum.{wt, max-least}
+use Rattle.schedules.proofs.Net.{Net, Fits, Sched}
+use Rattle.schedules.proofs.Sound.{earlier, base, early-last, Round, finish-bound}
+use Rattle.schedules.proofs.Graph.{T-true, net}
+use Rattle.schedules.proofs.Turns.{seen}
+use Rattle.schedules.proofs.Schedule.{sched-ended, Played, Stopped, nothing-played, playOn-played}
 
 -- ---- the limits are a round's latest times
 

@@ -1,0 +1,173 @@
+-- The pairs apart grow from round to round: a pair that a round finds apart is apart after every later one, so it is all one
+-- whether the set is kept or found anew. Assumes nothing.
+--
+-- Why: the more pairs are known to be apart, the fewer contenders an EX has to wait for. Then B is no larger, the sum is no
+-- larger, nor is the largest latest finish; and the latest start is made of these by sum, larger and smaller. So in node
+-- order no latest time of the next round is above that of the round before, while the earliest times stay. A latest finish
+-- that was at most an earliest ready still is.
+use Prim.Native.Nat.{ℕ, zero, suc, _+_, _≤_, _<_, min, max}
+use mathlib.Core.Path.{_≡_, sym, ap, _∙_}
+use mathlib.Core.Bool.{Bool, true, false, not, _&&_, _||_, false≢true}
+use mathlib.Core.List.{List, map}
+use mathlib.Core.Logic.{_⊎_, inl, inr}
+use native.Mathlib.Omega.{arith}
+use Rattle.seqs.specs.Lists.{those}
+use Rattle.seqs.specs.Sums.{largest, total}
+use Rattle.seqs.proofs.Tests.{by-test, and-left, and-right, and-both, or-cases, or-first, or-second, same-test}
+use Rattle.seqs.proofs.Members.{in-map, map-in}
+use Rattle.seqs.proofs.Those.{those-in}
+use Rattle.seqs.proofs.Sums.{largest-in, largest-most}
+use Rattle.seqs.proofs.Growing.{in-those, those-none}
+use Rattle.record.specs.declared.Block.{Block}
+use Rattle.record.proofs.Ranges.{Ranges}
+use Rattle.model.specs.Nodes.{EX, nodes, node, instruction, isEX, lowest, highest}
+use Rattle.model.specs.Paths.{Pairs, has, contending}
+use Rattle.model.specs.Cycles.{start, finish, ready}
+use Rattle.model.specs.Rounds.{earliest, R, rival, round, apart, new}
+use Rattle.model.proofs.Sets.{has-pairs}
+use Rattle.model.proofs.Rules.{lowest-some, Clear, apart-clear, clear-apart}
+use Rattle.schedules.proofs.Sum.{wt}
+use Rattle.schedules.proofs.Graph.{ready-done, done-ready, total-more}
+use Rattle.theory.specs.Sequence.{knownAt, lateAt, apartAt}
+use Rattle.theory.proofs.Rounds.{G, EX-node, late, at-EX, off-EX}
+
+-- ---- of fewer, the largest and the sum are no larger
+module _ (p q : ℕ → Bool) (n : ℕ) (fewer : (k : ℕ) → k < n → p k ≡ true → q k ≡ true) where
+  largest-fewer : (f g : ℕ → ℕ) (a c : ℕ) → c ≤ n → ((k : ℕ) → k < c → f k ≤ g k) → largest (map f (those a c p)) ≤ largest (map g (those a c q))
+  largest-fewer f g a c m h =
+      largest-most (largest (map g (those a c q))) (map f (those a c p))
+      (λ x i.
+      let w = in-map f x (those a c p) i in
+      let k = those-in p a c (w .0) (w .1) in
+      let j = in-those q a c (w .0) (k .0) (k .1) (fewer (w .0) (omega (arith, k .1)) (k .2)) in
+      omega (arith, w .2, h (w .0) (k .1), largest-in (map g (those a c q)) (g (w .0)) (map-in g (w .0) (those a c q) j)))
+
+  one-fewer : (k x : ℕ) → k < n → wt (p k) x ≤ wt (q k) x
+  one-fewer k x l = by-test (p k) (λ t. rw (t, fewer k l t) (omega arith)) (λ f. rw f (omega arith))
+
+  total-fewer : (f : ℕ → ℕ) (c : ℕ) → c ≤ n → total (map f (those 0 c p)) ≤ total (map f (those 0 c q))
+  unfolding total
+  total-fewer f zero m = rw (those-none p 0) (omega arith)
+  total-fewer f (suc c) m = omega (arith, total-more p f c, total-more q f c, total-fewer f c (omega arith), one-fewer c (f c) (omega arith))
+
+-- and so is what the round rules make of them
+latest-mono : (p q s t x y : ℕ) → p ≤ q → s ≤ t → x ≤ y → min (p + s) (max p x) ≤ min (q + t) (max q y)
+latest-mono p q s t x y h k m = omega arith
+
+module _ (b : Block) (A : Ranges b) where
+  -- no ready time is later where no start before it is
+  ready-mono : (lat : ℕ → ℕ) (s t : List ℕ) (v : ℕ) → ((u : ℕ) → u < v → start s u ≤ start t u) → ready b lat s v ≤ ready b lat t v
+  ready-mono lat s t v h =
+      let d = ready-done b A (lowest b) (lowest-some b A) lat t v (ready b lat t v) (omega arith) in
+      done-ready b A (lowest b) (lowest-some b A) lat s v (ready b lat t v)
+      (record {
+        fin = λ u i. omega (arith, d .fin u i, h u (G b A .fin-lt u v i));
+        ord = λ u i. omega (arith, d .ord u i, h u (G b A .ord-lt u v i));
+      })
+
+  -- ---- a round in which more pairs are known to be apart
+  module _ (known more : Pairs) (contains : (i j : ℕ) → i < b .n → j < b .n → has known i j ≡ true → has more i j ≡ true) where
+    fewer : (i j : ℕ) → i < b .n → j < b .n → rival (contending b) more i j ≡ true → rival (contending b) known i j ≡ true
+    unfolding rival
+    fewer i j hi hj t =
+        and-both (has (contending b) i j) (not (has known i j)) (and-left (has (contending b) i j) _ t)
+        (by-test (has known i j)
+        (λ k. absurd (false≢true (sym (ap not (contains i j hi hj k)) ∙ and-right (has (contending b) i j) (not (has more i j)) t)))
+        (λ k. ap not k))
+
+    one : (v : ℕ) → v < nodes b → ((u : ℕ) → u < v → start (late b A more) u ≤ start (late b A known) u) → start (late b A more) v ≤ start (late b A known) v
+    unfolding R finish
+    one v l ih =
+        by-test (isEX v)
+        (λ t.
+        let i : ℕ = instruction v in
+        let p : ℕ → Bool = rival (contending b) more i in
+        let q : ℕ → Bool = rival (contending b) known i in
+        let hi : ℕ → ℕ = λ j. highest b (node EX j) in
+        let few : (j : ℕ) → j < b .n → p j ≡ true → q j ≡ true = λ j. fewer i j (omega arith) in
+        let m = largest-fewer p q (b .n) few hi hi (i + 1) (b .n) (omega arith) (λ k a. omega arith) in
+        let x = largest-fewer p q (b .n) few (λ j. start (late b A more) (node EX j) + hi j) (λ j. start (late b A known) (node EX j) + hi j) 0 i (omega arith)
+        (λ k a. omega (arith, ih (node EX k) (omega (arith, EX-node b A v t)))) in
+        rw (at-EX b A more v l t, at-EX b A known v l t)
+        (latest-mono _ _ _ _ _ _ (omega (arith, r, m)) (total-fewer p q (b .n) few hi i (omega arith)) x))
+        (λ f. omega (arith, r, off-EX b A more v l f, off-EX b A known v l f))
+      where
+        r : ready b (highest b) (late b A more) v ≤ ready b (highest b) (late b A known) v
+        r = ready-mono (highest b) (late b A more) (late b A known) v ih
+
+    below : (k v : ℕ) → v < k → v < nodes b → start (late b A more) v ≤ start (late b A known) v
+    below zero v h l = absurd (omega arith)
+    below (suc k) v h l = one v l (λ u o. below k u (omega arith) (omega arith))
+
+    -- MORE PAIRS APART, NO LATER TIMES
+    pub round-mono : (v : ℕ) → v < nodes b → start (late b A more) v ≤ start (late b A known) v
+    round-mono v l = below (suc v) v (omega arith) l
+
+  -- ---- the rounds one by one
+  known-has : (k i j : ℕ) → i < b .n → j < b .n
+      → has (knownAt b (suc k)) i j ≡ (has (knownAt b k) i j || new b (contending b) (knownAt b k) (earliest b) (lateAt b k) i j)
+  unfolding knownAt lateAt
+  known-has k i j hi hj = has-pairs (b .n) (λ x y. has (knownAt b k) x y || new b (contending b) (knownAt b k) (earliest b) (round b (contending b) (knownAt b k)) x y) i j hi hj
+
+  -- no latest time is above that of the round before
+  late-falls : (k v : ℕ) → v < nodes b → start (lateAt b (suc k)) v ≤ start (lateAt b k) v
+  unfolding lateAt
+  late-falls k =
+      round-mono (knownAt b k) (knownAt b (suc k))
+      (λ i j hi hj t. known-has k i j hi hj ∙ or-first (has (knownAt b k) i j) _ t)
+
+  -- SO A PAIR THAT A ROUND FINDS APART IS APART AFTER THE NEXT
+  pub next-apart : (k i j : ℕ) → i < b .n → j < b .n → apartAt b k i j ≡ true → apartAt b (suc k) i j ≡ true
+  unfolding apartAt finish
+  next-apart k i j hi hj t =
+      and-both (has (contending b) i j) (apart b (earliest b) (lateAt b (suc k)) i j) (and-left (has (contending b) i j) _ t)
+      (clear-apart b (earliest b) (lateAt b (suc k)) i j (go (apart-clear b (earliest b) (lateAt b k) i j (and-right (has (contending b) i j) (apart b (earliest b) (lateAt b k) i j) t))))
+    where
+      go : Clear b (earliest b) (lateAt b k) i j → Clear b (earliest b) (lateAt b (suc k)) i j
+      go (inl c) = inl (omega (arith, c, late-falls k (node EX i) (omega arith)))
+      go (inr c) = inr (omega (arith, c, late-falls k (node EX j) (omega arith)))
+
+  -- ---- the pairs kept are the pairs found anew
+  abbrev found : ℕ → ℕ → ℕ → Bool
+  found k i j = new b (contending b) (knownAt b k) (earliest b) (lateAt b k) i j
+
+  none-first : (i j : ℕ) → has (knownAt b 0) i j ≡ true → ⊥
+  unfolding knownAt
+  none-first i j t = false≢true t
+
+  found-apart : (k i j : ℕ) → found k i j ≡ true → apartAt b k i j ≡ true
+  unfolding apartAt new rival
+  found-apart k i j t =
+      let c : (has (contending b) i j && not (has (knownAt b k) i j)) ≡ true = and-left _ (apart b (earliest b) (lateAt b k) i j) t in
+      and-both (has (contending b) i j) (apart b (earliest b) (lateAt b k) i j) (and-left (has (contending b) i j) _ c) (and-right (has (contending b) i j && not (has (knownAt b k) i j)) _ t)
+
+  apart-found : (k i j : ℕ) → apartAt b k i j ≡ true → has (knownAt b k) i j ≡ false → found k i j ≡ true
+  unfolding apartAt new rival
+  apart-found k i j t f =
+      and-both (has (contending b) i j && not (has (knownAt b k) i j)) (apart b (earliest b) (lateAt b k) i j)
+      (and-both (has (contending b) i j) (not (has (knownAt b k) i j)) (and-left (has (contending b) i j) _ t) (ap not f))
+      (and-right (has (contending b) i j) _ t)
+
+  module _ (i j : ℕ) (hi : i < b .n) (hj : j < b .n) where
+    kept-or-found : (k : ℕ) → has (knownAt b (suc k)) i j ≡ true → (has (knownAt b k) i j ≡ true) ⊎ (found k i j ≡ true)
+    kept-or-found k t = or-cases (has (knownAt b k) i j) (found k i j) (sym (known-has k i j hi hj) ∙ t)
+
+    known-clear : (k : ℕ) → has (knownAt b (suc k)) i j ≡ true → apartAt b k i j ≡ true
+    known-clear zero t = go (kept-or-found zero t)
+      where
+        go : (has (knownAt b zero) i j ≡ true) ⊎ (found zero i j ≡ true) → apartAt b zero i j ≡ true
+        go (inl f) = absurd (none-first i j f)
+        go (inr f) = found-apart zero i j f
+    known-clear (suc k) t = go (known-clear k) (kept-or-found (suc k) t)
+      where
+        go : (has (knownAt b (suc k)) i j ≡ true → apartAt b k i j ≡ true) → (has (knownAt b (suc k)) i j ≡ true) ⊎ (found (suc k) i j ≡ true) → apartAt b (suc k) i j ≡ true
+        go ih (inl f) = next-apart k i j hi hj (ih f)
+        go ih (inr f) = found-apart (suc k) i j f
+
+    -- THE PAIRS KNOWN AFTER A ROUND ARE THOSE THAT ARE APART BY ITS TIMES
+    pub known-apart : (k : ℕ) → has (knownAt b (suc k)) i j ≡ apartAt b k i j
+    known-apart k =
+        same-test (has (knownAt b (suc k)) i j) (apartAt b k i j) (known-clear k)
+        (λ t.
+        known-has k i j hi hj
+        ∙ by-test (has (knownAt b k) i j) (or-first (has (knownAt b k) i j) (found k i j)) (λ f. or-second (has (knownAt b k) i j) (found k i j) (apart-found k i j t f)))
