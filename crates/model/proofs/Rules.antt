@@ -30,6 +30,18 @@ unfolding behind none total largest
 behind-short p f g [] = omega arith
 behind-short p f g (e ∷ es) = refl
 
+module _ (b : Block) where
+  -- the highest latencies of the EX of these instructions, and their finishes in s
+  abbrev pub highs : List ℕ → List ℕ
+  highs = map (λ j. highest b (node EX j))
+
+  abbrev pub ends : List ℕ → List ℕ → List ℕ
+  ends s = map (λ j. finish (highest b) s (node EX j))
+
+  -- what the later ones may add
+  abbrev pub held : List ℕ → ℕ
+  held js = max (largest (highs js)) 1 - 1
+
 module _ (b : Block) (A : Ranges b) where
   -- no latency is 0
   pub lowest-some : (v : ℕ) → v < nodes b → 1 ≤ lowest b v
@@ -43,17 +55,6 @@ module _ (b : Block) (A : Ranges b) where
   lowest-highest v l =
       by-test (isEX v) (λ e. rw e (A .instruction (instruction v) (omega arith) .hi)) (λ e. rw e (omega arith))
 
-  -- the highest latencies of the EX of these instructions, and their finishes in s
-  abbrev pub highs : List ℕ → List ℕ
-  highs = map (λ j. highest b (node EX j))
-
-  abbrev pub ends : List ℕ → List ℕ → List ℕ
-  ends s = map (λ j. finish (highest b) s (node EX j))
-
-  -- what the later ones may add
-  abbrev pub held : List ℕ → ℕ
-  held js = max (largest (highs js)) 1 - 1
-
   module _ (rivals : ℕ → ℕ → Bool) (s : List ℕ) (i r : ℕ) where
     abbrev before : List ℕ
     before = those 0 i (rivals i)
@@ -61,7 +62,7 @@ module _ (b : Block) (A : Ranges b) where
     abbrev behindIt : List ℕ
     behindIt = those (i + 1) (b .n) (rivals i)
 
-    some : (x : ℕ) → In x (highs behindIt) → 1 ≤ x
+    some : (x : ℕ) → In x (highs b behindIt) → 1 ≤ x
     some x k =
         let w = in-map (λ j. highest b (node EX j)) x behindIt k in
         let h : node EX (w .0) < nodes b = omega (arith, those-in (rivals i) (i + 1) (b .n) (w .0) (w .1) .1) in
@@ -69,11 +70,11 @@ module _ (b : Block) (A : Ranges b) where
 
     -- THE LATEST START OF AN EX, IN ONE FORMULA
     pub EX-short : latestEX b rivals s i r
-        ≡ min (r + held behindIt + total (highs before)) (max (r + held behindIt) (largest (ends s before)))
+        ≡ min (r + held b behindIt + total (highs b before)) (max (r + held b behindIt) (largest (ends b s before)))
     unfolding latestEX
     EX-short =
-        behind-short (B r (highs behindIt)) (λ j. highest b (node EX j)) (λ j. finish (highest b) s (node EX j)) before
-        ∙ rw (B-short r (highs behindIt) some) refl
+        behind-short (B r (highs b behindIt)) (λ j. highest b (node EX j)) (λ j. finish (highest b) s (node EX j)) before
+        ∙ rw (B-short r (highs b behindIt) some) refl
 
 -- ---- apart
 module _ (b : Block) (early late : List ℕ) (i j : ℕ) where

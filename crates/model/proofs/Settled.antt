@@ -65,7 +65,7 @@ pub record Rest (b : Block) (con : Pairs) (k : ℕ) (known : Pairs) (w : Windows
   pub rounds : w .rounds ≤ k + count (b .n) (rival con known)
   pub parted : count (b .n) (has (w .known)) + count (b .n) (rival con (w .known)) ≡ count (b .n) (has known) + count (b .n) (rival con known)
 
-above : (x : ℕ) → (x ≡ 0 → ⊥) → 0 < x
+pub above : (x : ℕ) → (x ≡ 0 → ⊥) → 0 < x
 above zero f = absurd (f refl)
 above (suc x) f = omega arith
 

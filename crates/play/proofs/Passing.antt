@@ -17,7 +17,7 @@ use Rattle.model.specs.Nodes.{EX, nodes, node, instruction, entry}
 use Rattle.model.specs.Cycles.{State, notStarted, start, started, finish, runs, free, begins, turns, cycle, nothing, over, playOn, play}
 use Rattle.model.proofs.Predecessors.{finish-below}
 use Rattle.schedules.proofs.Turns.{begins-means, means-begins, started-not}
-use Rattle.schedules.proofs.Schedule.{over-all, all-over}
+use Rattle.schedules.proofs.Schedule.{over-all, all-over, over-on}
 
 -- ---- turns
 module _ (b : Block) (lat : ℕ → ℕ) (t : ℕ) (s₀ s : List ℕ) where
@@ -115,11 +115,6 @@ module _ (b : Block) (lat : ℕ → ℕ) where
   unfolding turns
   over-turns t s h = sym (turns-skip b lat t s s 0 (nodes b) (omega arith) refl (λ v _ l. started-stays b lat t s v (over-all b (at t s) h v l)))
 
-  pub over-on : (m : ℕ) (p : State) → over b p ≡ true → playOn m b lat p ≡ p
-  unfolding playOn
-  over-on zero p h = refl
-  over-on (suc m) p h = rw h refl
-
   -- one cycle of a play
   play-step : (m t : ℕ) (s : List ℕ) → playOn (suc m) b lat (at t s) .starts ≡ playOn m b lat (at (t + 1) (turns b lat t s (nodes b))) .starts
   unfolding playOn cycle
@@ -128,7 +123,7 @@ module _ (b : Block) (lat : ℕ → ℕ) where
       (λ h.
       let same = over-turns t s h in
       let o = all-over b (at (t + 1) s) (over-all b (at t s) h) in
-      rw (same, h) (sym (ap (λ (p : State). p .starts) (over-on m (at (t + 1) s) o))))
+      rw (same, h) (sym (ap (λ (p : State). p .starts) (over-on b lat m (at (t + 1) s) o))))
       (λ h. rw h refl)
 
   -- cycles in which nothing starts

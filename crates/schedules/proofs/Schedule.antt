@@ -9,6 +9,7 @@ use mathlib.Core.Path.{_≡_, refl, sym, ap}
 use mathlib.Core.Bool.{Bool, true, not}
 use mathlib.Core.Logic.{_⊎_, inl, inr}
 use native.Mathlib.Omega.{arith}
+use native.Mathlib.Nat.{zero-add, suc-add}
 use native.Mathlib.Numerals.{add-one}
 use lib.ListN.{length, replicate, length-replicate, getD-replicate}
 use borrow.Author.Tests.{not-true, not-false}
@@ -73,6 +74,20 @@ module _ (b : Block) (p : State) where
   pub all-over : ((v : ℕ) → v < nodes b → started (p .starts) v ≡ true) → over b p ≡ true
   unfolding over
   all-over h = ap not (exists-none 0 (nodes b) waits (omega arith) (λ v _ l. ap not (h v l)))
+
+-- ---- where all have started, a play goes no further
+module _ (b : Block) (lat : ℕ → ℕ) where
+  pub over-on : (m : ℕ) (p : State) → over b p ≡ true → playOn m b lat p ≡ p
+  unfolding playOn
+  over-on zero p h = refl
+  over-on (suc m) p h = rw h refl
+
+  pub over-more : (m k : ℕ) (p : State) → over b (playOn m b lat p) ≡ true → playOn (m + k) b lat p ≡ playOn m b lat p
+  unfolding playOn
+  over-more zero k p h = rw (zero-add k) (over-on k p h)
+  over-more (suc m) k p h =
+      rw (suc-add m k)
+      (by-test (over b p) (λ t. rw t refl) (λ f. rw f (over-more m k (cycle b lat p) (rw f at h))))
 
 -- what every state of a play is, in the net G of block b: it has a cell for each node, a start lies before its cycle
 -- number, and the starts as they are seen are a schedule

@@ -27,7 +27,7 @@ use Rattle.play.specs.declared.Lasting.{Lasting}
 use Rattle.play.proofs.Outcomes.{accepted-so, length-fine, play-fine}
 use Rattle.theory.specs.Words.{AcceptedBlock, ByteLatencies, AcceptedList, Within, Inside}
 use Rattle.theory.specs.Sequence.{knownAt, lateAt, apartAt}
-use Rattle.theory.proofs.Windows.{windows-last as last-round}
+use Rattle.theory.proofs.Known.{windows-last as last-round}
 use Rattle.theory.proofs.Grows.{next-apart, known-apart}
 use Rattle.theory.proofs.Played.{play-inside, none-waits, last-over, last-play, chosen-fits}
 use Rattle.theory.proofs.Tables.{table-within, table-few, window-kept, play-kept}

@@ -7,13 +7,13 @@
 -- that was at most an earliest ready still is.
 use Prim.Native.Nat.{ℕ, zero, suc, _+_, _≤_, _<_, min, max}
 use mathlib.Core.Path.{_≡_, sym, ap, _∙_}
-use mathlib.Core.Bool.{Bool, true, false, not, _&&_, _||_, false≢true}
+use mathlib.Core.Bool.{Bool, true, not, false≢true}
 use mathlib.Core.List.{List, map}
 use mathlib.Core.Logic.{_⊎_, inl, inr}
 use native.Mathlib.Omega.{arith}
 use Rattle.seqs.specs.Lists.{those}
 use Rattle.seqs.specs.Sums.{largest, total}
-use Rattle.seqs.proofs.Tests.{by-test, and-left, and-right, and-both, or-cases, or-first, or-second, same-test}
+use Rattle.seqs.proofs.Tests.{by-test, and-left, and-right, and-both, same-test}
 use Rattle.seqs.proofs.Members.{in-map, map-in}
 use Rattle.seqs.proofs.Those.{those-in}
 use Rattle.seqs.proofs.Sums.{largest-in, largest-most}
@@ -23,17 +23,18 @@ use Rattle.record.proofs.Ranges.{Ranges}
 use Rattle.model.specs.Nodes.{EX, nodes, node, instruction, isEX, lowest, highest}
 use Rattle.model.specs.Paths.{Pairs, has, contending}
 use Rattle.model.specs.Cycles.{start, finish, ready}
-use Rattle.model.specs.Rounds.{earliest, R, rival, round, apart, new}
-use Rattle.model.proofs.Sets.{has-pairs}
+use Rattle.model.specs.Rounds.{earliest, R, rival, apart}
 use Rattle.model.proofs.Rules.{lowest-some, Clear, apart-clear, clear-apart}
 use Rattle.schedules.proofs.Sum.{wt}
 use Rattle.schedules.proofs.Graph.{ready-done, done-ready, total-more}
 use Rattle.theory.specs.Sequence.{knownAt, lateAt, apartAt}
+use Rattle.theory.proofs.Known.{found, none-first, found-apart, apart-found, kept-or-found, kept, found-known}
 use Rattle.theory.proofs.Rounds.{G, EX-node, late, at-EX, off-EX}
 
 -- ---- of fewer, the largest and the sum are no larger
 module _ (p q : ℕ → Bool) (n : ℕ) (fewer : (k : ℕ) → k < n → p k ≡ true → q k ≡ true) where
-  largest-fewer : (f g : ℕ → ℕ) (a c : ℕ) → c ≤ n → ((k : ℕ) → k < c → f k ≤ g k) → largest (map f (those a c p)) ≤ largest (map g (those a c q))
+  largest-fewer : (f g : ℕ → ℕ) (a c : ℕ) → c ≤ n → ((k : ℕ) → k < c → f k ≤ g k)
+      → largest (map f (those a c p)) ≤ largest (map g (those a c q))
   largest-fewer f g a c m h =
       largest-most (largest (map g (those a c q))) (map f (those a c p))
       (λ x i.
@@ -75,7 +76,7 @@ module _ (b : Block) (A : Ranges b) where
         (λ k. absurd (false≢true (sym (ap not (contains i j hi hj k)) ∙ and-right (has (contending b) i j) (not (has more i j)) t)))
         (λ k. ap not k))
 
-    one : (v : ℕ) → v < nodes b → ((u : ℕ) → u < v → start (late b A more) u ≤ start (late b A known) u) → start (late b A more) v ≤ start (late b A known) v
+    one : (v : ℕ) → v < nodes b → ((u : ℕ) → u < v → start (late b more) u ≤ start (late b known) u) → start (late b more) v ≤ start (late b known) v
     unfolding R finish
     one v l ih =
         by-test (isEX v)
@@ -86,88 +87,64 @@ module _ (b : Block) (A : Ranges b) where
         let hi : ℕ → ℕ = λ j. highest b (node EX j) in
         let few : (j : ℕ) → j < b .n → p j ≡ true → q j ≡ true = λ j. fewer i j (omega arith) in
         let m = largest-fewer p q (b .n) few hi hi (i + 1) (b .n) (omega arith) (λ k a. omega arith) in
-        let x = largest-fewer p q (b .n) few (λ j. start (late b A more) (node EX j) + hi j) (λ j. start (late b A known) (node EX j) + hi j) 0 i (omega arith)
-        (λ k a. omega (arith, ih (node EX k) (omega (arith, EX-node b A v t)))) in
-        rw (at-EX b A more v l t, at-EX b A known v l t)
+        let x = largest-fewer p q (b .n) few (λ j. start (late b more) (node EX j) + hi j) (λ j. start (late b known) (node EX j) + hi j) 0 i (omega arith)
+        (λ k a. omega (arith, ih (node EX k) (omega (arith, EX-node v t)))) in
+        rw (at-EX b more A v l t, at-EX b known A v l t)
         (latest-mono _ _ _ _ _ _ (omega (arith, r, m)) (total-fewer p q (b .n) few hi i (omega arith)) x))
-        (λ f. omega (arith, r, off-EX b A more v l f, off-EX b A known v l f))
+        (λ f. omega (arith, r, off-EX b more A v l f, off-EX b known A v l f))
       where
-        r : ready b (highest b) (late b A more) v ≤ ready b (highest b) (late b A known) v
-        r = ready-mono (highest b) (late b A more) (late b A known) v ih
+        r : ready b (highest b) (late b more) v ≤ ready b (highest b) (late b known) v
+        r = ready-mono (highest b) (late b more) (late b known) v ih
 
-    below : (k v : ℕ) → v < k → v < nodes b → start (late b A more) v ≤ start (late b A known) v
+    below : (k v : ℕ) → v < k → v < nodes b → start (late b more) v ≤ start (late b known) v
     below zero v h l = absurd (omega arith)
     below (suc k) v h l = one v l (λ u o. below k u (omega arith) (omega arith))
 
     -- MORE PAIRS APART, NO LATER TIMES
-    pub round-mono : (v : ℕ) → v < nodes b → start (late b A more) v ≤ start (late b A known) v
+    pub round-mono : (v : ℕ) → v < nodes b → start (late b more) v ≤ start (late b known) v
     round-mono v l = below (suc v) v (omega arith) l
 
   -- ---- the rounds one by one
-  known-has : (k i j : ℕ) → i < b .n → j < b .n
-      → has (knownAt b (suc k)) i j ≡ (has (knownAt b k) i j || new b (contending b) (knownAt b k) (earliest b) (lateAt b k) i j)
-  unfolding knownAt lateAt
-  known-has k i j hi hj = has-pairs (b .n) (λ x y. has (knownAt b k) x y || new b (contending b) (knownAt b k) (earliest b) (round b (contending b) (knownAt b k)) x y) i j hi hj
 
   -- no latest time is above that of the round before
   late-falls : (k v : ℕ) → v < nodes b → start (lateAt b (suc k)) v ≤ start (lateAt b k) v
   unfolding lateAt
-  late-falls k =
-      round-mono (knownAt b k) (knownAt b (suc k))
-      (λ i j hi hj t. known-has k i j hi hj ∙ or-first (has (knownAt b k) i j) _ t)
+  late-falls k = round-mono (knownAt b k) (knownAt b (suc k)) (kept b k)
 
   -- SO A PAIR THAT A ROUND FINDS APART IS APART AFTER THE NEXT
   pub next-apart : (k i j : ℕ) → i < b .n → j < b .n → apartAt b k i j ≡ true → apartAt b (suc k) i j ≡ true
   unfolding apartAt finish
   next-apart k i j hi hj t =
-      and-both (has (contending b) i j) (apart b (earliest b) (lateAt b (suc k)) i j) (and-left (has (contending b) i j) _ t)
-      (clear-apart b (earliest b) (lateAt b (suc k)) i j (go (apart-clear b (earliest b) (lateAt b k) i j (and-right (has (contending b) i j) (apart b (earliest b) (lateAt b k) i j) t))))
+      let c = apart-clear b (earliest b) (lateAt b k) i j (and-right contends (apart b (earliest b) (lateAt b k) i j) t) in
+      and-both contends (apart b (earliest b) (lateAt b (suc k)) i j) (and-left contends (apart b (earliest b) (lateAt b k) i j) t)
+      (clear-apart b (earliest b) (lateAt b (suc k)) i j (go c))
     where
+      contends : Bool
+      contends = has (contending b) i j
+
       go : Clear b (earliest b) (lateAt b k) i j → Clear b (earliest b) (lateAt b (suc k)) i j
       go (inl c) = inl (omega (arith, c, late-falls k (node EX i) (omega arith)))
       go (inr c) = inr (omega (arith, c, late-falls k (node EX j) (omega arith)))
 
   -- ---- the pairs kept are the pairs found anew
-  abbrev found : ℕ → ℕ → ℕ → Bool
-  found k i j = new b (contending b) (knownAt b k) (earliest b) (lateAt b k) i j
-
-  none-first : (i j : ℕ) → has (knownAt b 0) i j ≡ true → ⊥
-  unfolding knownAt
-  none-first i j t = false≢true t
-
-  found-apart : (k i j : ℕ) → found k i j ≡ true → apartAt b k i j ≡ true
-  unfolding apartAt new rival
-  found-apart k i j t =
-      let c : (has (contending b) i j && not (has (knownAt b k) i j)) ≡ true = and-left _ (apart b (earliest b) (lateAt b k) i j) t in
-      and-both (has (contending b) i j) (apart b (earliest b) (lateAt b k) i j) (and-left (has (contending b) i j) _ c) (and-right (has (contending b) i j && not (has (knownAt b k) i j)) _ t)
-
-  apart-found : (k i j : ℕ) → apartAt b k i j ≡ true → has (knownAt b k) i j ≡ false → found k i j ≡ true
-  unfolding apartAt new rival
-  apart-found k i j t f =
-      and-both (has (contending b) i j && not (has (knownAt b k) i j)) (apart b (earliest b) (lateAt b k) i j)
-      (and-both (has (contending b) i j) (not (has (knownAt b k) i j)) (and-left (has (contending b) i j) _ t) (ap not f))
-      (and-right (has (contending b) i j) _ t)
-
   module _ (i j : ℕ) (hi : i < b .n) (hj : j < b .n) where
-    kept-or-found : (k : ℕ) → has (knownAt b (suc k)) i j ≡ true → (has (knownAt b k) i j ≡ true) ⊎ (found k i j ≡ true)
-    kept-or-found k t = or-cases (has (knownAt b k) i j) (found k i j) (sym (known-has k i j hi hj) ∙ t)
-
     known-clear : (k : ℕ) → has (knownAt b (suc k)) i j ≡ true → apartAt b k i j ≡ true
-    known-clear zero t = go (kept-or-found zero t)
+    known-clear zero t = go (kept-or-found b zero i j hi hj t)
       where
-        go : (has (knownAt b zero) i j ≡ true) ⊎ (found zero i j ≡ true) → apartAt b zero i j ≡ true
-        go (inl f) = absurd (none-first i j f)
-        go (inr f) = found-apart zero i j f
-    known-clear (suc k) t = go (known-clear k) (kept-or-found (suc k) t)
+        go : (has (knownAt b zero) i j ≡ true) ⊎ (found b zero i j ≡ true) → apartAt b zero i j ≡ true
+        go (inl f) = absurd (none-first b i j f)
+        go (inr f) = found-apart b zero i j f
+    known-clear (suc k) t = go (known-clear k) (kept-or-found b (suc k) i j hi hj t)
       where
-        go : (has (knownAt b (suc k)) i j ≡ true → apartAt b k i j ≡ true) → (has (knownAt b (suc k)) i j ≡ true) ⊎ (found (suc k) i j ≡ true) → apartAt b (suc k) i j ≡ true
+        go : (has (knownAt b (suc k)) i j ≡ true → apartAt b k i j ≡ true) → (has (knownAt b (suc k)) i j ≡ true) ⊎ (found b (suc k) i j ≡ true)
+            → apartAt b (suc k) i j ≡ true
         go ih (inl f) = next-apart k i j hi hj (ih f)
-        go ih (inr f) = found-apart (suc k) i j f
+        go ih (inr f) = found-apart b (suc k) i j f
+
+    clear-known : (k : ℕ) → apartAt b k i j ≡ true → has (knownAt b (suc k)) i j ≡ true
+    clear-known k t =
+        by-test (has (knownAt b k) i j) (kept b k i j hi hj) (λ f. found-known b k i j hi hj (apart-found b k i j t f))
 
     -- THE PAIRS KNOWN AFTER A ROUND ARE THOSE THAT ARE APART BY ITS TIMES
     pub known-apart : (k : ℕ) → has (knownAt b (suc k)) i j ≡ apartAt b k i j
-    known-apart k =
-        same-test (has (knownAt b (suc k)) i j) (apartAt b k i j) (known-clear k)
-        (λ t.
-        known-has k i j hi hj
-        ∙ by-test (has (knownAt b k) i j) (or-first (has (knownAt b k) i j) (found k i j)) (λ f. or-second (has (knownAt b k) i j) (found k i j) (apart-found k i j t f)))
+    known-apart k = same-test (has (knownAt b (suc k)) i j) (apartAt b k i j) (known-clear k) (clear-known k)

@@ -1,4 +1,5 @@
 pub mod Rounds
+pub mod Known
 pub mod Windows
 pub mod Grows
 pub mod Played

@@ -1,19 +1,19 @@
 -- Every play of an accepted block is a schedule that fits its net; so it stays inside the windows, in every cycle. Assumes
 -- nothing.
-use Prim.Native.Nat.{ℕ, zero, suc, _+_, _-_, _*_, _≤_, _<_}
-use mathlib.Core.Path.{_≡_, refl, sym, ap, _∙_}
+use Prim.Native.Nat.{ℕ, _+_, _-_, _*_, _≤_, _<_}
+use mathlib.Core.Path.{_≡_, sym, ap, _∙_}
 use mathlib.Core.Bool.{true, false, false≢true}
 use mathlib.Core.List.{List}
 use mathlib.Core.Logic.{_⊎_, inl, inr}
 use native.Mathlib.Omega.{arith}
-use native.Mathlib.Nat.{zero-add, suc-add}
+use native.Mathlib.Nat.{zero-add}
 use lib.Dec.{leb}
 use borrow.Author.Tests.{eqb-true, leb-true, leb-false, not-false}
 use Rattle.seqs.proofs.Tests.{by-test}
 use Rattle.record.specs.declared.Block.{Block}
 use Rattle.record.proofs.Ranges.{Ranges, ranges}
 use Rattle.model.specs.Nodes.{nodes, instruction, isEX, latency, lowest, highest, chosen}
-use Rattle.model.specs.Cycles.{State, notStarted, start, started, finish, cycle, nothing, over, playOn, play, ready}
+use Rattle.model.specs.Cycles.{State, notStarted, start, started, finish, nothing, over, playOn, play, ready}
 use Rattle.model.specs.Rounds.{earliest, R, windows}
 use Rattle.model.proofs.Lines.{earliest-is}
 use Rattle.model.proofs.Limit.{windows-limit}
@@ -22,10 +22,9 @@ use Rattle.schedules.proofs.Net.{Fits, Sched}
 use Rattle.schedules.proofs.Sound.{early-ready}
 use Rattle.schedules.proofs.Graph.{ready-done, done-ready}
 use Rattle.schedules.proofs.Turns.{seen, started-yes}
-use Rattle.schedules.proofs.Schedule.{all-over, Played, Stopped, nothing-played, playOn-played}
+use Rattle.schedules.proofs.Schedule.{all-over, over-more, Played, Stopped, nothing-played, playOn-played}
 use Rattle.schedules.proofs.Ends.{play-started, play-sched}
 use Rattle.play.proofs.Listed.{ranged}
-use Rattle.play.proofs.Passing.{over-on}
 use Rattle.theory.specs.Words.{AcceptedBlock, ByteLatencies, AcceptedList, Inside}
 use Rattle.theory.proofs.Rounds.{G, earliest-early}
 use Rattle.theory.proofs.Windows.{windows-start, windows-ready}
@@ -41,9 +40,6 @@ late-below b accepted bytes v l =
 module _ (b : Block) (accepted : AcceptedBlock b) (bytes : ByteLatencies b) (lat : ℕ → ℕ) (fits : Fits (G b (ranges b accepted)) lat) where
   abbrev A : Ranges b
   A = ranges b accepted
-
-  some : (v : ℕ) → v < nodes b → 1 ≤ lat v
-  some v l = omega (arith, lowest-some b A v l, fits .low v l)
 
   -- the starts at the end
   sched : Sched (G b A) lat 30780 (start (play b lat))
@@ -124,17 +120,10 @@ module _ (b : Block) (accepted : AcceptedBlock b) (bytes : ByteLatencies b) (lat
   last-over = all-over b last all-started
 
   -- and the play goes no further
-  on-and-on : (m k : ℕ) (p : State) → over b (playOn m b lat p) ≡ true → playOn (m + k) b lat p ≡ playOn m b lat p
-  unfolding playOn
-  on-and-on zero k p h = rw (zero-add k) (over-on b lat k p h)
-  on-and-on (suc m) k p h =
-      rw (suc-add m k)
-      (by-test (over b p) (λ t. rw t refl) (λ f. rw f (on-and-on m k (cycle b lat p) (rw f at h))))
-
   past-last : (k : ℕ) → 513 * b .n ≤ k → playOn k b lat nothing ≡ last
   past-last k h =
       let e : k ≡ 513 * b .n + (k - 513 * b .n) = omega arith in
-      ap (λ (j : ℕ). playOn j b lat nothing) e ∙ on-and-on (513 * b .n) (k - 513 * b .n) nothing last-over
+      ap (λ (j : ℕ). playOn j b lat nothing) e ∙ over-more b lat (513 * b .n) (k - 513 * b .n) nothing last-over
 
   pub last-play : play b lat ≡ last .starts
   unfolding play

@@ -35,6 +35,16 @@ use Rattle.schedules.proofs.Net.{Net, Way, by-fin, by-ord, then-fin, then-ord, 
 use Rattle.schedules.proofs.Sound.{Early, earlier, base, early-sum, early-last, Round}
 use Rattle.schedules.proofs.Graph.{T-true, true-T, net, ready-done, done-ready, sum-EX}
 
+-- an EX by its instruction
+pub EX-node : (v : ℕ) → isEX v ≡ true → node EX (instruction v) ≡ v
+EX-node v t = omega (arith, eqb-true (stage v) EX t)
+
+-- two EX whose instructions are known to be apart
+pub record Parted (known : Pairs) (u v : ℕ) : Type 0 where
+  pub one : isEX u ≡ true
+  pub other : isEX v ≡ true
+  pub known-so : has known (instruction v) (instruction u) ≡ true
+
 module _ (b : Block) (A : Ranges b) where
   -- the block's net, each latency from its lowest to its highest
   abbrev pub G : Net
@@ -64,35 +74,27 @@ module _ (b : Block) (A : Ranges b) where
       go w (inl f) = then-fin w f
       go w (inr o) = then-ord w o
 
-  -- an EX by its instruction
-  pub EX-node : (v : ℕ) → isEX v ≡ true → node EX (instruction v) ≡ v
-  EX-node v t = omega (arith, eqb-true (stage v) EX t)
+-- ---- one round, with these pairs known to be apart
+module _ (b : Block) (known : Pairs) where
+  abbrev pub rivals : ℕ → ℕ → Bool
+  rivals = rival (contending b) known
 
-  -- ---- one round, with these pairs known to be apart
-  module _ (known : Pairs) where
-    abbrev rivals : ℕ → ℕ → Bool
-    rivals = rival (contending b) known
+  -- u may delay v: its instruction is a contender of v's that is not known to be apart from it
+  abbrev pub delays : ℕ → ℕ → Bool
+  delays v u = isEX u && rivals (instruction v) (instruction u)
 
-    -- u may delay v: its instruction is a contender of v's that is not known to be apart from it
-    abbrev pub delays : ℕ → ℕ → Bool
-    delays v u = isEX u && rivals (instruction v) (instruction u)
+  -- and stands after it
+  abbrev pub delaysLater : ℕ → ℕ → Bool
+  delaysLater v u = delays v u && ltb v u
 
-    -- and stands after it
-    abbrev pub delaysLater : ℕ → ℕ → Bool
-    delaysLater v u = delays v u && ltb v u
+  abbrev pub late : List ℕ
+  late = round b (contending b) known
 
-    -- two EX whose instructions are known to be apart
-    pub record Parted (u v : ℕ) : Type 0 where
-      pub one : isEX u ≡ true
-      pub other : isEX v ≡ true
-      pub known-so : has known (instruction v) (instruction u) ≡ true
-
-    abbrev pub late : List ℕ
-    late = round b (contending b) known
-
+  module _ (A : Ranges b) where
     -- ---- every two EX of one kind may delay each other, are joined by a path, or are apart
-    cover : (v u : ℕ) → v < nodes b → u < nodes b → T (isEX v) → T (isEX u) → entry b (instruction u) .kind ≡ entry b (instruction v) .kind → (u ≡ v → ⊥)
-        → T (delays v u) ⊎ (Way G u v ⊎ (Way G v u ⊎ Parted u v))
+    cover : (v u : ℕ) → v < nodes b → u < nodes b → T (isEX v) → T (isEX u)
+        → entry b (instruction u) .kind ≡ entry b (instruction v) .kind → (u ≡ v → ⊥)
+        → T (delays v u) ⊎ (Way (G b A) u v ⊎ (Way (G b A) v u ⊎ Parted known u v))
     unfolding rival
     cover v u lv lu xv xu kinds two =
         go (contend-or-path b A i j (omega arith) (omega arith) (λ e. two (sym (EX-node u tu) ∙ rw (sym e) (EX-node v tv))) (sym kinds))
@@ -110,13 +112,13 @@ module _ (b : Block) (A : Ranges b) where
         tu = T-true (isEX u) xu
 
         go : (has (contending b) i j ≡ true) ⊎ (Path b (node EX i) (node EX j) ⊎ Path b (node EX j) (node EX i))
-            → T (delays v u) ⊎ (Way G u v ⊎ (Way G v u ⊎ Parted u v))
+            → T (delays v u) ⊎ (Way (G b A) u v ⊎ (Way (G b A) v u ⊎ Parted known u v))
         go (inl c) =
             by-test (has known i j)
             (λ t. inr (inr (inr (record { one = tu; other = tv; known-so = t }))))
             (λ f. inl (true-T (delays v u) (rw (tu, c, f) refl)))
-        go (inr (inl p)) = inr (inr (inl (path-way v u (rw (← EX-node v tv, ← EX-node u tu) p))))
-        go (inr (inr p)) = inr (inl (path-way u v (rw (← EX-node v tv, ← EX-node u tu) p)))
+        go (inr (inl p)) = inr (inr (inl (path-way b A v u (rw (← EX-node v tv, ← EX-node u tu) p))))
+        go (inr (inr p)) = inr (inl (path-way b A u v (rw (← EX-node v tv, ← EX-node u tu) p)))
 
     -- ---- the rules at an EX
     module _ (v : ℕ) (l : v < nodes b) (t : isEX v ≡ true) where
@@ -129,22 +131,32 @@ module _ (b : Block) (A : Ranges b) where
       abbrev pub after : List ℕ
       after = those (i + 1) (b .n) (rivals i)
 
-      pub at-EX : start late v ≡ min (R b late v + held b A after + total (highs b A before)) (max (R b late v + held b A after) (largest (ends b A late before)))
+      pub at-EX : start late v
+          ≡ min (R b late v + held b after + total (highs b before)) (max (R b late v + held b after) (largest (ends b late before)))
       unfolding latestStart
       at-EX = round-is b A (contending b) known v l ∙ rw t (EX-short b A rivals late i (R b late v))
 
       -- the later ones are among those that B looks at
-      base-most : base G delaysLater (λ u. R b late u) v ≤ R b late v + held b A after
+      abbrev B : ℕ
+      B = base (G b A) delaysLater (λ u. R b late u) v
+
+      base-most : B ≤ R b late v + held b after
       unfolding base
-      base-most = omega (arith, max-least (nodes b) (λ u. wt (delaysLater v u) (highest b u)) (max (largest (highs b A after)) 1) (λ u m. by-test (delaysLater v u) (yes-later u m) (λ f. rw f (omega arith))))
+      base-most =
+          omega (
+            arith,
+            max-least (nodes b) (λ u. wt (delaysLater v u) (highest b u)) (max (largest (highs b after)) 1)
+                (λ u m. by-test (delaysLater v u) (yes-later u m) (λ f. rw f (omega arith))),
+          )
         where
-          yes-later : (u : ℕ) → u < nodes b → delaysLater v u ≡ true → wt (delaysLater v u) (highest b u) ≤ max (largest (highs b A after)) 1
+          yes-later : (u : ℕ) → u < nodes b → delaysLater v u ≡ true → wt (delaysLater v u) (highest b u) ≤ max (largest (highs b after)) 1
           yes-later u m d =
               let x : isEX u ≡ true = and-left (isEX u) _ (and-left (delays v u) (ltb v u) d) in
               let e : node EX (instruction u) ≡ u = EX-node u x in
               let o : v < u = ltb-true v u (and-right (delays v u) (ltb v u) d) in
-              let k = in-those (rivals i) (i + 1) (b .n) (instruction u) (omega (arith, EX-node v t)) (omega arith) (and-right (isEX u) _ (and-left (delays v u) (ltb v u) d)) in
-              let w = largest-in (highs b A after) (highest b (node EX (instruction u))) (map-in (λ j. highest b (node EX j)) (instruction u) after k) in
+              let r : rivals i (instruction u) ≡ true = and-right (isEX u) _ (and-left (delays v u) (ltb v u) d) in
+              let k = in-those (rivals i) (i + 1) (b .n) (instruction u) (omega (arith, EX-node v t)) (omega arith) r in
+              let w = largest-in (highs b after) (highest b (node EX (instruction u))) (map-in (λ j. highest b (node EX j)) (instruction u) after k) in
               rw d (omega (arith, w, ap (highest b) e))
 
       -- the earlier ones are those of the sum
@@ -164,34 +176,33 @@ module _ (b : Block) (A : Ranges b) where
           let o : ltb (node EX j) v ≡ true = lt-ltb (node EX j) v (omega (arith, EX-node v t)) in
           rw (x, e, o) (and-true (rivals i j))
 
-      sum-most : early-sum G delays v ≡ total (highs b A before)
+      sum-most : early-sum (G b A) delays v ≡ total (highs b before)
       unfolding early-sum
       sum-most =
           sum-front (5 * i) (nodes b) (λ u. wt (earlier delays v u) (highest b u)) (omega arith) none-from
           ∙ sum-EX (earlier delays v) earlier-EX (highest b) i
-          ∙ ap (λ (js : List ℕ). total (highs b A js)) (those-ext (λ j. earlier delays v (node EX j)) (rivals i) 0 i (λ j a m. at-those j m))
+          ∙ ap (λ (js : List ℕ). total (highs b js)) (those-ext (λ j. earlier delays v (node EX j)) (rivals i) 0 i (λ j a m. at-those j m))
 
       -- and those of the largest latest finish
-      last-most : early-last G delays (λ u. start late u + highest b u) v ≤ largest (ends b A late before)
+      last-most : early-last (G b A) delays (λ u. start late u + highest b u) v ≤ largest (ends b late before)
       unfolding early-last finish
       last-most =
-          max-least (nodes b) (λ u. wt (earlier delays v u) (start late u + highest b u)) (largest (ends b A late before))
+          max-least (nodes b) (λ u. wt (earlier delays v u) (start late u + highest b u)) (largest (ends b late before))
           (λ u m. by-test (earlier delays v u) (yes-earlier u) (λ f. rw f (omega arith)))
         where
-          yes-earlier : (u : ℕ) → earlier delays v u ≡ true → wt (earlier delays v u) (start late u + highest b u) ≤ largest (ends b A late before)
+          yes-earlier : (u : ℕ) → earlier delays v u ≡ true → wt (earlier delays v u) (start late u + highest b u) ≤ largest (ends b late before)
           yes-earlier u d =
               let x : isEX u ≡ true = and-left (isEX u) _ (and-left (delays v u) (ltb u v) d) in
               let e : node EX (instruction u) ≡ u = EX-node u x in
               let o : u < v = ltb-true u v (and-right (delays v u) (ltb u v) d) in
-              let k = in-those (rivals i) 0 i (instruction u) (omega arith) (omega (arith, EX-node v t)) (and-right (isEX u) _ (and-left (delays v u) (ltb u v) d)) in
-              let w = largest-in (ends b A late before) (finish (highest b) late (node EX (instruction u))) (map-in (λ j. finish (highest b) late (node EX j)) (instruction u) before k) in
+              let r : rivals i (instruction u) ≡ true = and-right (isEX u) _ (and-left (delays v u) (ltb u v) d) in
+              let k = in-those (rivals i) 0 i (instruction u) (omega arith) (omega (arith, EX-node v t)) r in
+              let w = largest-in (ends b late before) _ (map-in (λ j. finish (highest b) late (node EX j)) (instruction u) before k) in
               rw d (omega (arith, w, ap (λ (x : ℕ). start late x + highest b x) e))
 
-      -- so the latest start allows for both bounds. Units are not counted: the sum over one unit is no less than the share
-      -- of more
-      EX-late : min (base G delaysLater (λ u. R b late u) v + early-sum G delays v / G .units (G .kind v)) (max (base G delaysLater (λ u. R b late u) v) (early-last G delays (λ u. start late u + highest b u) v))
-          ≤ start late v
-      EX-late = omega (arith, at-EX, base-most, sum-most, last-most, div-le-self (early-sum G delays v) (G .units (G .kind v)))
+      -- so the latest start allows for both bounds. The sum is not divided among the units, and undivided it is no less
+      EX-late : min (B + early-sum (G b A) delays v / G b A .units (G b A .kind v)) (max B (early-last (G b A) delays (λ u. start late u + highest b u) v)) ≤ start late v
+      EX-late = omega (arith, at-EX, base-most, sum-most, last-most, div-le-self (early-sum (G b A) delays v) (G b A .units (G b A .kind v)))
 
     pub off-EX : (v : ℕ) → v < nodes b → isEX v ≡ false → start late v ≡ R b late v
     unfolding latestStart
@@ -200,12 +211,12 @@ module _ (b : Block) (A : Ranges b) where
     ready-first : (v : ℕ) → v < nodes b → R b late v ≤ start late v
     ready-first v l = by-test (isEX v) (λ t. omega (arith, at-EX v l t)) (λ f. omega (arith, off-EX v l f))
 
-    done : (v : ℕ) → Done G (highest b) (start late) v (R b late v)
+    done : (v : ℕ) → Done (G b A) (highest b) (start late) v (R b late v)
     unfolding R
     done v = ready-done b A (lowest b) (lowest-some b A) (highest b) late v (ready b (highest b) late v) (omega arith)
 
     -- A ROUND OF THE MODEL IS A ROUND
-    pub model-round : Round G (start (earliest b)) Parted delays delaysLater (λ v. R b late v) (start late) (λ v. start late v + highest b v)
+    pub model-round : Round (G b A) (start (earliest b)) (Parted known) delays delaysLater (λ v. R b late v) (start late) (λ v. start late v + highest b v)
     model-round =
         record {
           cover = cover;
