@@ -2,10 +2,14 @@
 use Prim.Native.Nat.{ℕ, _+_, _<_}
 use mathlib.Core.Path.{_≡_, refl, ap}
 use mathlib.Core.Bool.{Bool, false}
+use mathlib.Core.List.{List, [], _∷_}
 use native.Mathlib.Omega.{arith}
-use Rattle.seqs.specs.Lists.{tab}
+use lib.ListN.{length}
+use Rattle.seqs.specs.Lists.{In, tab, those}
+use Rattle.seqs.proofs.Tests.{by-test}
 use Rattle.seqs.proofs.Tables.{getD-tab}
-use Rattle.seqs.proofs.Those.{one, those-parted, total-parted}
+use Rattle.seqs.proofs.Those.{one, those-parted, total-parted, sum-one}
+use Rattle.seqs.proofs.Growing.{in-those}
 use Rattle.model.specs.Paths.{has, pairs, count}
 
 pub has-pairs : (n : ℕ) (p : ℕ → ℕ → Bool) (i j : ℕ) → i < n → j < n → has (pairs n p) i j ≡ p i j
@@ -26,3 +30,17 @@ count-ext n p q h =
     let e = count-parted n p q (λ i j. false) (λ i j l m. let s = ap one (h i j l m) in omega arith) in
     let z = count-none n in
     omega arith
+
+some-length : (x : ℕ) (xs : List ℕ) → In x xs → 0 < length xs
+some-length x [] i = absurd i
+some-length x (y ∷ xs) i = omega arith
+
+-- of what is not counted there is none
+pub count-zero : (n : ℕ) (p : ℕ → ℕ → Bool) → count n p ≡ 0 → (i j : ℕ) → i < j → j < n → p i j ≡ false
+unfolding count
+count-zero n p e i j h l =
+    by-test (p i j)
+    (λ t.
+    let some = some-length i (those 0 j (λ x. p x j)) (in-those (λ x. p x j) 0 j i (omega arith) h t) in
+    absurd (omega (arith, some, sum-one (λ y. length (those 0 y (λ x. p x y))) n j l)))
+    (λ f. f)

@@ -60,13 +60,13 @@ analysed-result b o o' a x e = x .output ∙ (rw (accepted-so a e (x .answer)) r
 
 -- ---- from a block record
 module _ (s : List ℕ) (u : Bytes s) where
-  pub number-copied : (k : ℕ) → k < 4 → getD (result (decoded s)) (8 + k) 0 ≡ getD s (12 + k) 0
+  pub copied-number : (k : ℕ) → k < 4 → getD (result (decoded s)) (8 + k) 0 ≡ getD s (12 + k) 0
   unfolding decoded
-  number-copied k h = number-byte (decoded s) k h ∙ bytes-little 4 s 12 (u .byte) k h
+  copied-number k h = number-byte (decoded s) k h ∙ bytes-little 4 s 12 (u .byte) k h
 
-  pub origin-copied : getD (result (decoded s)) 5 0 ≡ getD s 10 0
+  pub copied-origin : getD (result (decoded s)) 5 0 ≡ getD s 10 0
   unfolding decoded
-  origin-copied = origin-byte (decoded s)
+  copied-origin = origin-byte (decoded s)
 
   -- a block that is read has bytes for its latencies
   entry-byte : (i : ℕ) → entry (decoded s) i .hi ≤ 255

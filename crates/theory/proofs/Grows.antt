@@ -1,13 +1,13 @@
 -- The pairs apart grow from round to round: a pair that a round finds apart is apart after every later one, so it is all one
--- whether the set is kept or found anew. Assumes nothing.
+-- whether the set is kept or found anew, and the windows show which pairs are apart. Assumes nothing.
 --
 -- Why: the more pairs are known to be apart, the fewer contenders an EX has to wait for. Then B is no larger, the sum is no
 -- larger, nor is the largest latest finish; and the latest start is made of these by sum, larger and smaller. So in node
 -- order no latest time of the next round is above that of the round before, while the earliest times stay. A latest finish
 -- that was at most an earliest ready still is.
-use Prim.Native.Nat.{ℕ, zero, suc, _+_, _≤_, _<_, min, max}
+use Prim.Native.Nat.{ℕ, zero, suc, _+_, _-_, _≤_, _<_, min, max}
 use mathlib.Core.Path.{_≡_, sym, ap, _∙_}
-use mathlib.Core.Bool.{Bool, true, not, false≢true}
+use mathlib.Core.Bool.{Bool, true, false, not, _&&_, false≢true}
 use mathlib.Core.List.{List, map}
 use mathlib.Core.Logic.{_⊎_, inl, inr}
 use native.Mathlib.Omega.{arith}
@@ -21,14 +21,16 @@ use Rattle.seqs.proofs.Growing.{in-those, those-none}
 use Rattle.record.specs.declared.Block.{Block}
 use Rattle.record.proofs.Ranges.{Ranges}
 use Rattle.model.specs.Nodes.{EX, nodes, node, instruction, isEX, lowest, highest}
-use Rattle.model.specs.Paths.{Pairs, has, contending}
+use Rattle.model.specs.Paths.{Pairs, has, count, contending}
 use Rattle.model.specs.Cycles.{start, finish, ready}
-use Rattle.model.specs.Rounds.{earliest, R, rival, apart}
+use Rattle.model.specs.Rounds.{earliest, R, rival, apart, windows, apartCount}
+use Rattle.model.proofs.Sets.{count-ext, count-zero}
+use Rattle.model.proofs.Settled.{windows-settled}
 use Rattle.model.proofs.Rules.{lowest-some, Clear, apart-clear, clear-apart}
 use Rattle.schedules.proofs.Sum.{wt}
 use Rattle.schedules.proofs.Graph.{ready-done, done-ready, total-more}
 use Rattle.theory.specs.Sequence.{knownAt, lateAt, apartAt}
-use Rattle.theory.proofs.Known.{found, none-first, found-apart, apart-found, kept-or-found, kept, found-known}
+use Rattle.theory.proofs.Known.{found, none-first, found-apart, apart-found, kept-or-found, kept, found-known, last-round}
 use Rattle.theory.proofs.Rounds.{G, EX-node, late, at-EX, off-EX}
 
 -- ---- of fewer, the largest and the sum are no larger
@@ -148,3 +150,37 @@ module _ (b : Block) (A : Ranges b) where
     -- THE PAIRS KNOWN AFTER A ROUND ARE THOSE THAT ARE APART BY ITS TIMES
     pub known-apart : (k : ℕ) → has (knownAt b (suc k)) i j ≡ apartAt b k i j
     known-apart k = same-test (has (knownAt b (suc k)) i j) (apartAt b k i j) (known-clear k) (clear-known k)
+
+  -- ---- the windows' own times
+  abbrev last : ℕ
+  last = windows b .rounds - 1
+
+  -- the last round finds none
+  none-found : (i j : ℕ) → i < j → j < b .n → found b last i j ≡ false
+  none-found =
+      count-zero (b .n) (found b last)
+      (rw (← last-round b .known, ← last-round b .late) (windows-settled b .quiet))
+
+  -- so the pairs known in it are those known after it
+  same-known : (i j : ℕ) → i < j → j < b .n → has (knownAt b last) i j ≡ has (knownAt b (suc last)) i j
+  same-known i j h l = same-test (has (knownAt b last) i j) (has (knownAt b (suc last)) i j) (kept b last i j hi l) (λ t. go (kept-or-found b last i j hi l t))
+    where
+      hi : i < b .n
+      hi = omega arith
+
+      go : (has (knownAt b last) i j ≡ true) ⊎ (found b last i j ≡ true) → has (knownAt b last) i j ≡ true
+      go (inl t) = t
+      go (inr t) = absurd (false≢true (sym (none-found i j h l) ∙ t))
+
+  shown : (i j : ℕ) → i < j → j < b .n → has (windows b .known) i j ≡ (has (contending b) i j && apart b (earliest b) (windows b .late) i j)
+  unfolding apartAt
+  shown i j h l =
+      ap (λ (m : Pairs). has m i j) (last-round b .known)
+      ∙ same-known i j h l
+      ∙ known-apart i j (omega arith) l last
+      ∙ ap (λ (s : List ℕ). has (contending b) i j && apart b (earliest b) s i j) (sym (last-round b .late))
+
+  -- THE PAIRS APART ARE THOSE THAT THE WINDOWS SHOW
+  pub count-shown : apartCount b ≡ count (b .n) (λ i j. has (contending b) i j && apart b (earliest b) (windows b .late) i j)
+  unfolding apartCount
+  count-shown = count-ext (b .n) (has (windows b .known)) (λ i j. has (contending b) i j && apart b (earliest b) (windows b .late) i j) shown

@@ -93,6 +93,6 @@ module _ (b : Block) where
       (λ t. rw (t, f) (last-from most (suc k) (omega (arith, fewer k t))))
 
   -- THE WINDOWS ARE THOSE OF THE LAST ROUND
-  pub windows-last : Last (windows b)
+  pub last-round : Last (windows b)
   unfolding windows knownAt pairCount
-  windows-last = last-from (count (b .n) (has (contending b)) + 1) 0 (omega (arith, all-rivals b))
+  last-round = last-from (count (b .n) (has (contending b)) + 1) 0 (omega (arith, all-rivals b))

@@ -23,7 +23,7 @@ use Rattle.analysis.proofs.Outcomes.{analyse-fine}
 use Rattle.play.proofs.Outcomes.{accepted-so}
 use Rattle.theory.specs.Words.{AcceptedBlock, ByteLatencies, AcceptedList, Anomaly}
 use Rattle.theory.proofs.Played.{late-below}
-use Rattle.theory.proofs.Carried.{origin-byte, number-bytes, analysed-result, number-copied, origin-copied as origin-byte-copied}
+use Rattle.theory.proofs.Carried.{origin-byte, number-bytes, analysed-result, copied-number, copied-origin}
 use Rattle.theory.proofs.Worst.{worst-E}
 use Rattle.theory.proofs.Demand.{inside}
 
@@ -43,7 +43,7 @@ origin-copied s o o' r a u y f x e =
     let z : readVerdict s ≡ (0, 0) = accepted-so (r .answer) f (y .answer) in
     let d : r .block ≡ decoded s = y .block ∙ (rw z refl) in
     let i : o' ≡ result (decoded s) = analysed-result (r .block) o o' a x e ∙ ap result d in
-    rw i (origin-byte-copied s u, number-copied s u)
+    rw i (copied-origin s u, copied-number s u)
 
 -- WHY A RUN WITH EVERY LATENCY AT ITS LONGEST FINISHED SOONER THAN THE REAL ONE: so does block E, at 23; with its first
 -- latency at 1 it ends at 27, which is its bound

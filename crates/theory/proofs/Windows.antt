@@ -21,7 +21,7 @@ use Rattle.model.proofs.Rules.{Clear, apart-clear}
 use Rattle.schedules.proofs.Net.{Fits, Done, Sched}
 use Rattle.schedules.proofs.Sound.{start-bound, ready-bound}
 use Rattle.theory.specs.Sequence.{knownAt, lateAt, apartAt}
-use Rattle.theory.proofs.Known.{found, none-first, found-apart, kept-or-found, windows-last}
+use Rattle.theory.proofs.Known.{found, none-first, found-apart, kept-or-found, last-round}
 use Rattle.theory.proofs.Rounds.{G, earliest-early, EX-node, delays, delaysLater, Parted, model-round}
 
 module _ (b : Block) (A : Ranges b) (lat : ℕ → ℕ) (F : Fits (G b A) lat) (H : ℕ) (s : ℕ → ℕ) (P : Sched (G b A) lat H s) where
@@ -84,7 +84,7 @@ module _ (b : Block) (A : Ranges b) (lat : ℕ → ℕ) (F : Fits (G b A) lat) (
 
   -- EVERY ROUND BOUNDS EVERY SCHEDULE, AND SO THE WINDOWS DO
   pub windows-start : (v : ℕ) → v < nodes b → s v ≤ start (windows b .late) v
-  windows-start v l = rw (windows-last b .late) (by-start (windows b .rounds - 1) (sound (windows b .rounds - 1)) v l)
+  windows-start v l = rw (last-round b .late) (by-start (windows b .rounds - 1) (sound (windows b .rounds - 1)) v l)
 
   pub windows-ready : (v : ℕ) → v < nodes b → Done (G b A) lat s v (R b (windows b .late) v)
-  windows-ready v l = rw (windows-last b .late) (by-ready (windows b .rounds - 1) (sound (windows b .rounds - 1)) v l)
+  windows-ready v l = rw (last-round b .late) (by-ready (windows b .rounds - 1) (sound (windows b .rounds - 1)) v l)
