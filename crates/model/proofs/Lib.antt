@@ -6,5 +6,7 @@ pub mod Reached
 pub mod Chains
 pub mod Lines
 pub mod Settled
+pub mod Latencies
 pub mod Rules
+pub mod Tables
 pub mod Limit

@@ -20,6 +20,7 @@ use Rattle.model.specs.Paths.{Pairs, contending}
 use Rattle.model.specs.Cycles.{start, finish, ready}
 use Rattle.model.specs.Rounds.{earliest, R, rival, B, behind, latestEX, latestStart, round, windows, bound}
 use Rattle.model.proofs.Predecessors.{finish-below, order-below}
+use Rattle.model.proofs.Latencies.{latency-mono}
 use Rattle.model.proofs.Lines.{earliest-is, round-is}
 use Rattle.model.proofs.Settled.{windows-settled}
 
@@ -104,7 +105,7 @@ begin-most v = omega (arith, begin-end (stage v), end-most (stage v))
 -- ---- ready times and latest starts, where the finishes before keep their limits
 latency-most : (x v : ℕ) → x ≤ 255 → latency x v ≤ most (isEX v)
 unfolding latency
-latency-most x v h = by-test (isEX v) (λ e. rw e h) (λ e. rw e (omega arith))
+latency-most x v h = latency-mono x 255 v h
 
 B-most : (r : ℕ) (his : List ℕ) → largest his ≤ 255 → B r his ≤ r + 254
 unfolding B

@@ -10,14 +10,15 @@ use lib.Dec.{leb}
 use borrow.Author.Tests.{leb-true, le-leb}
 use Rattle.seqs.specs.Lists.{In, those}
 use Rattle.seqs.specs.Sums.{largest, total, none}
-use Rattle.seqs.proofs.Tests.{by-test, or-cases, or-first, or-second}
+use Rattle.seqs.proofs.Tests.{or-cases, or-first, or-second}
 use Rattle.seqs.proofs.Members.{in-map}
 use Rattle.seqs.proofs.Those.{those-in}
 use Rattle.record.specs.declared.Block.{Block}
 use Rattle.record.proofs.Ranges.{Ranges}
-use Rattle.model.specs.Nodes.{EX, nodes, node, instruction, isEX, latency, lowest, highest}
+use Rattle.model.specs.Nodes.{EX, nodes, node, highest}
 use Rattle.model.specs.Cycles.{start, finish}
 use Rattle.model.specs.Rounds.{B, behind, latestEX, apart}
+use Rattle.model.proofs.Latencies.{lowest-some, lowest-highest}
 
 -- ---- the latest start of an EX
 pub B-short : (r : ℕ) (xs : List ℕ) → ((x : ℕ) → In x xs → 1 ≤ x) → B r xs ≡ r + (max (largest xs) 1 - 1)
@@ -43,38 +44,26 @@ module _ (b : Block) where
   held js = max (largest (highs js)) 1 - 1
 
 module _ (b : Block) (A : Ranges b) where
-  -- no latency is 0
-  pub lowest-some : (v : ℕ) → v < nodes b → 1 ≤ lowest b v
-  unfolding lowest latency
-  lowest-some v l =
-      by-test (isEX v) (λ e. rw e (A .instruction (instruction v) (omega arith) .lo)) (λ e. rw e (omega arith))
-
-  -- the lowest is not above the highest
-  pub lowest-highest : (v : ℕ) → v < nodes b → lowest b v ≤ highest b v
-  unfolding lowest highest latency
-  lowest-highest v l =
-      by-test (isEX v) (λ e. rw e (A .instruction (instruction v) (omega arith) .hi)) (λ e. rw e (omega arith))
-
   module _ (rivals : ℕ → ℕ → Bool) (s : List ℕ) (i r : ℕ) where
     abbrev before : List ℕ
     before = those 0 i (rivals i)
 
-    abbrev behindIt : List ℕ
-    behindIt = those (i + 1) (b .n) (rivals i)
+    abbrev after : List ℕ
+    after = those (i + 1) (b .n) (rivals i)
 
-    some : (x : ℕ) → In x (highs b behindIt) → 1 ≤ x
+    some : (x : ℕ) → In x (highs b after) → 1 ≤ x
     some x k =
-        let w = in-map (λ j. highest b (node EX j)) x behindIt k in
+        let w = in-map (λ j. highest b (node EX j)) x after k in
         let h : node EX (w .0) < nodes b = omega (arith, those-in (rivals i) (i + 1) (b .n) (w .0) (w .1) .1) in
-        omega (arith, w .2, lowest-some (node EX (w .0)) h, lowest-highest (node EX (w .0)) h)
+        omega (arith, w .2, lowest-some b A (node EX (w .0)) h, lowest-highest b A (node EX (w .0)) h)
 
     -- THE LATEST START OF AN EX, IN ONE FORMULA
     pub EX-short : latestEX b rivals s i r
-        ≡ min (r + held b behindIt + total (highs b before)) (max (r + held b behindIt) (largest (ends b s before)))
+        ≡ min (r + held b after + total (highs b before)) (max (r + held b after) (largest (ends b s before)))
     unfolding latestEX
     EX-short =
-        behind-short (B r (highs b behindIt)) (λ j. highest b (node EX j)) (λ j. finish (highest b) s (node EX j)) before
-        ∙ rw (B-short r (highs b behindIt) some) refl
+        behind-short (B r (highs b after)) (λ j. highest b (node EX j)) (λ j. finish (highest b) s (node EX j)) before
+        ∙ rw (B-short r (highs b after) some) refl
 
 -- ---- apart
 module _ (b : Block) (early late : List ℕ) (i j : ℕ) where

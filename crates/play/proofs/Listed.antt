@@ -9,12 +9,13 @@ use lib.Dec.{ltb}
 use borrow.Author.Tests.{eq-eqb, ne-eqb, eqb-true, ltb-false, not-false}
 use Rattle.seqs.specs.Lists.{least}
 use Rattle.seqs.proofs.Least.{least-below}
-use Rattle.seqs.proofs.Tests.{by-test, or-left, or-right}
+use Rattle.seqs.proofs.Tests.{or-left, or-right}
 use Rattle.record.specs.Refusals.{verdict}
 use Rattle.record.specs.declared.Block.{Block}
 use Rattle.record.proofs.Verdicts.{none, refuse, pass, passed, refuse-lowest, pass-lowest, passed-lowest}
 use Rattle.record.proofs.Ranges.{Ranges}
-use Rattle.model.specs.Nodes.{nodes, instruction, isEX, entry, latency, highest, chosen}
+use Rattle.model.specs.Nodes.{nodes, instruction, entry, highest, chosen}
+use Rattle.model.proofs.Latencies.{latency-mono, latency-some}
 use Rattle.links.proofs.Accepted.{Column, kind-column}
 use Rattle.play.specs.Refusals.{wrong, listTest, latencyTest, listTests}
 use Rattle.play.specs.Running.{Chosen}
@@ -63,13 +64,11 @@ module _ (b : Block) (l : List ℕ) (z : verdict (listTests b l) ≡ (0, 0)) whe
 -- ---- the latencies that it chooses
 module _ (b : Block) (kinds l : List ℕ) (L : Chosen b kinds l) where
   pub chosen-least : Ranges b → (v : ℕ) → v < nodes b → 1 ≤ chosen b l v
-  unfolding chosen latency
+  unfolding chosen
   chosen-least A v h =
       let i : instruction v < b .n = omega arith in
-      by-test (isEX v) (λ e. rw e (omega (arith, L .least (instruction v) i, A .instruction (instruction v) i .lo)))
-      (λ e. rw e (omega arith))
+      latency-some _ v (omega (arith, L .least (instruction v) i, A .instruction (instruction v) i .lo))
 
   pub chosen-most : (v : ℕ) → v < nodes b → chosen b l v ≤ highest b v
-  unfolding chosen highest latency
-  chosen-most v h =
-      by-test (isEX v) (λ e. rw e (L .most (instruction v) (omega arith))) (λ e. rw e (omega arith))
+  unfolding chosen highest
+  chosen-most v h = latency-mono _ _ v (L .most (instruction v) (omega arith))

@@ -4,13 +4,12 @@ use mathlib.Core.Path.{_≡_, refl}
 use mathlib.Core.List.{List, _++_}
 use native.Mathlib.Omega.{arith}
 use lib.ListN.{getD, List·getD-append}
-use Rattle.seqs.specs.Lists.{joined}
-use Rattle.seqs.proofs.Places.{length-joined, getD-joined}
 use Rattle.record.specs.Refusals.{blockVerdict}
 use Rattle.record.specs.declared.Block.{Block}
 use Rattle.record.proofs.Ranges.{ranges}
 use Rattle.model.specs.Nodes.{CM, node, nodes, entry, chosen}
 use Rattle.model.specs.Cycles.{State, finish, turns, cycle, play, times, playLength, playTable}
+use Rattle.model.proofs.Tables.{play-at, length-plays}
 use Rattle.schedules.proofs.Ends.{play-limit}
 use Rattle.links.proofs.Accepted.{Column, kind-column, few}
 use Rattle.play.specs.Running.{Chosen}
@@ -31,14 +30,12 @@ module _ (b : Block) (z : blockVerdict b ≡ (0, 0)) where
 
   -- its length is the last number of its table
   pub length-last : (l o out : List ℕ) → out ≡ playTable b (chosen b l) ++ o → getD out (15 * b .n - 1) 0 ≡ playLength b (chosen b l)
-  unfolding playTable playLength times
+  unfolding playLength times
   length-last l o out e =
       let lat = chosen b l in
-      let s = play b lat in
       let v : 5 * b .n - 1 ≡ node CM (b .n - 1) = omega (arith, some) in
       let k : 15 * b .n - 1 ≡ 3 * (5 * b .n - 1) + 2 = omega (arith, some) in
-      let m = length-joined 3 (times b lat s) (λ u. refl) (nodes b) in
-      rw (e, List·getD-append (joined (nodes b) (times b lat s)) o 0 (15 * b .n - 1) (omega (arith, some, m)), k, getD-joined 3 (times b lat s) (λ u. refl) 0 (nodes b) (5 * b .n - 1) 2 (omega (arith, some)) (omega arith), v)
+      rw (e, List·getD-append (playTable b lat) o 0 (15 * b .n - 1) (omega (arith, some, length-plays b lat)), k, play-at b lat (5 * b .n - 1) 2 (omega (arith, some)) (omega arith), v)
       refl
 
 -- the state after a cycle, by its two parts

@@ -16,7 +16,7 @@ use Rattle.model.specs.Cycles.{State, start, finish, nothing, playOn, play}
 use Rattle.model.proofs.Limit.{readyLimit, finishLimit, limits-grow, late, room, end-limit, highest-most, most-255}
 use Rattle.schedules.proofs.Sum.{wt, max-least}
 use Rattle.schedules.proofs.Net.{Net, Fits, Sched}
-use Rattle.schedules.proofs.Sound.{earlier, base, early-last, Round, finish-bound}
+use Rattle.schedules.proofs.Sound.{earlier, base, early-last, Round, bounded}
 use Rattle.schedules.proofs.Graph.{T-true, net}
 use Rattle.schedules.proofs.Turns.{seen}
 use Rattle.schedules.proofs.Schedule.{sched-ended, Played, Stopped, nothing-played, playOn-played}
@@ -73,10 +73,10 @@ module _ (b : Block) (z : blockVerdict b ≡ (0, 0)) (cap : (i : ℕ) → entry 
 
   -- ---- the limits bound every state of a play
   pub played-limit : (p : State) → Played b (limitNet b A) lat p → (v : ℕ) → v < nodes b → seen (p .t) (p .starts) v + lat v ≤ finishLimit v
-  played-limit p P =
-      finish-bound (limitNet b A) lat fits (p .t) (seen (p .t) (p .starts)) (P .sched)
+  played-limit p P v l =
+      bounded (limitNet b A) lat fits (p .t) (seen (p .t) (p .starts)) (P .sched)
       (λ v. 0) (record { least = λ v x l f o. omega arith }) (λ u v. ⊥) (λ u v lu lv h. absurd h)
-      (λ v u. true) (λ v u. true) (λ v. readyLimit v) startLimit (λ v. finishLimit v) (limit-round b A cap)
+      (λ v u. true) (λ v u. true) (λ v. readyLimit v) startLimit (λ v. finishLimit v) (limit-round b A cap) v l .finish
 
   -- the state in which the play stops
   abbrev pub last-state : State

@@ -85,6 +85,12 @@ pub record Round (G : Net) (ER : ℕ → ℕ) (Apart : ℕ → ℕ → Type 0) (
       → min (base G late R v + early-sum G con v / G .units (G .kind v)) (max (base G late R v) (early-last G con LF v)) ≤ LS v
   pub lf : (v : ℕ) → v < G .N → LS v + G .hi v ≤ LF v
 
+-- ready, start and finish of v in a schedule are at most these
+pub record Bounded (G : Net) (lat s R LS LF : ℕ → ℕ) (v : ℕ) : Type 0 where
+  pub ready : Done G lat s v (R v)
+  pub start : s v ≤ LS v
+  pub finish : s v + lat v ≤ LF v
+
 module _ (G : Net) (lat : ℕ → ℕ) (F : Fits G lat) (H : ℕ) (s : ℕ → ℕ) (P : Sched G lat H s)
     (ER : ℕ → ℕ) (A : Early G ER) (Apart : ℕ → ℕ → Type 0)
     (sep : (u v : ℕ) → u < G .N → v < G .N → Apart u v → (s u + lat u ≤ ER v) ⊎ (s v + lat v ≤ ER u)) where
@@ -230,13 +236,13 @@ module _ (G : Net) (lat : ℕ → ℕ) (F : Fits G lat) (H : ℕ) (s : ℕ → �
   -- their finishes (`wait-last`). And each cycle from `base` to s takes as many of their cycles as there are units: s is at
   -- most `base` + their latencies' sum over the units (`wait-sum`).
   module _ (con late : ℕ → ℕ → Bool) (R LS LF : ℕ → ℕ) (Q : Round G ER Apart con late R LS LF) where
-    finish : (u : ℕ) → u < G .N → s u ≤ LS u → s u + lat u ≤ LF u
-    finish u l h = omega (arith, F .high u l, Q .lf u l)
+    ends-by : (u : ℕ) → u < G .N → s u ≤ LS u → s u + lat u ≤ LF u
+    ends-by u l h = omega (arith, F .high u l, Q .lf u l)
 
     ready-by : (v : ℕ) → v < G .N → ((u : ℕ) → u < v → s u ≤ LS u) → Done G lat s v (R v)
     ready-by v l ih =
         record {
-          fin = λ u f. let o = G .fin-lt u v f in omega (arith, finish u (omega arith) (ih u o), Q .r-fin u v l f);
+          fin = λ u f. let o = G .fin-lt u v f in omega (arith, ends-by u (omega arith) (ih u o), Q .r-fin u v l f);
           ord = λ u f. let o = G .ord-lt u v f in omega (arith, ih u o, Q .r-ord u v l f);
         }
 
@@ -244,7 +250,7 @@ module _ (G : Net) (lat : ℕ → ℕ) (F : Fits G lat) (H : ℕ) (s : ℕ → �
     one v l ih = go (G .ex v) refl
       where
         go : (b : Bool) → G .ex v ≡ b → s v ≤ LS v
-        go true x = ex-bound con late R LS LF Q v l (rw x tt) (ready-by v l ih) (λ u o. finish u (omega arith) (ih u o))
+        go true x = ex-bound con late R LS LF Q v l (rw x tt) (ready-by v l ih) (λ u o. ends-by u (omega arith) (ih u o))
         go false x = off (decLe (s v) (LS v))
           where
             off : Dec (s v ≤ LS v) → s v ≤ LS v
@@ -255,11 +261,8 @@ module _ (G : Net) (lat : ℕ → ℕ) (F : Fits G lat) (H : ℕ) (s : ℕ → �
     below zero v b l = absurd (omega arith)
     below (suc k) v b l = one v l (λ u o. below k u (omega arith) (omega arith))
 
-    pub start-bound : (v : ℕ) → v < G .N → s v ≤ LS v
-    start-bound v l = below (suc v) v (omega arith) l
+    starts-by : (v : ℕ) → v < G .N → s v ≤ LS v
+    starts-by v l = below (suc v) v (omega arith) l
 
-    pub finish-bound : (v : ℕ) → v < G .N → s v + lat v ≤ LF v
-    finish-bound v l = finish v l (start-bound v l)
-
-    pub ready-bound : (v : ℕ) → v < G .N → Done G lat s v (R v)
-    ready-bound v l = ready-by v l (λ u o. start-bound u (omega arith))
+    pub bounded : (v : ℕ) → v < G .N → Bounded G lat s R LS LF v
+    bounded v l = record { ready = ready-by v l (λ u o. starts-by u (omega arith)); start = starts-by v l; finish = ends-by v l (starts-by v l) }

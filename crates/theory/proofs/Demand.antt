@@ -2,7 +2,7 @@
 -- Assumes nothing.
 use Prim.Native.Nat.{ℕ, suc, _+_, _-_, _*_, _≤_, _<_}
 use mathlib.Core.Path.{_≡_, refl, _∙_}
-use mathlib.Core.Bool.{true, false, _&&_}
+use mathlib.Core.Bool.{true, false}
 use mathlib.Core.List.{List}
 use native.Mathlib.Omega.{arith}
 use lib.ListN.{getD}
@@ -15,9 +15,9 @@ use Rattle.record.specs.declared.Block.{Block}
 use Rattle.record.specs.declared.Reading.{Reading}
 use Rattle.record.proofs.Ranges.{ranges}
 use Rattle.model.specs.Nodes.{CM, nodes, node, chosen}
-use Rattle.model.specs.Paths.{has, count, contending}
+use Rattle.model.specs.Paths.{has, count}
 use Rattle.model.specs.Cycles.{start, started, nothing, over, playOn, play, playLength, playTable}
-use Rattle.model.specs.Rounds.{earliest, apart, windows, pairCount, roundCount, apartCount, bound, windowTable}
+use Rattle.model.specs.Rounds.{windows, pairCount, roundCount, apartCount, bound, windowTable}
 use Rattle.model.proofs.Settled.{rounds-most as settled-most}
 use Rattle.model.proofs.Limit.{bound-limit as model-limit}
 use Rattle.analysis.specs.Promises.{Analyses, Tables}
@@ -26,7 +26,7 @@ use Rattle.play.specs.Promises.{lasting, Plays, Lasts}
 use Rattle.play.specs.declared.Lasting.{Lasting}
 use Rattle.play.proofs.Outcomes.{accepted-so, length-fine, play-fine}
 use Rattle.theory.specs.Words.{AcceptedBlock, ByteLatencies, AcceptedList, Within, Inside}
-use Rattle.theory.specs.Sequence.{knownAt, lateAt, apartAt}
+use Rattle.theory.specs.Sequence.{knownAt, lateAt, apartBy, apartAt}
 use Rattle.theory.proofs.Known.{last-round}
 use Rattle.theory.proofs.Grows.{next-apart, known-apart, count-shown}
 use Rattle.theory.proofs.Played.{play-inside, none-waits, last-over, last-play, chosen-fits}
@@ -86,7 +86,7 @@ pub apart-kept : (b : Block) → AcceptedBlock b → (k i j : ℕ) → i < b .n 
 apart-kept b accepted k i j hi hj = known-apart b (ranges b accepted) i j hi hj k
 
 -- and the number of pairs apart is that of the contending pairs which the windows' own times show apart
-pub apart-shown : (b : Block) → AcceptedBlock b → apartCount b ≡ count (b .n) (λ i j. has (contending b) i j && apart b (earliest b) (windows b .late) i j)
+pub apart-shown : (b : Block) → AcceptedBlock b → apartCount b ≡ count (b .n) (apartBy b (windows b .late))
 apart-shown b accepted = count-shown b (ranges b accepted)
 
 -- the windows are those of the last of these rounds

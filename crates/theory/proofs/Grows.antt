@@ -7,7 +7,7 @@
 -- that was at most an earliest ready still is.
 use Prim.Native.Nat.{ℕ, zero, suc, _+_, _-_, _≤_, _<_, min, max}
 use mathlib.Core.Path.{_≡_, sym, ap, _∙_}
-use mathlib.Core.Bool.{Bool, true, false, not, _&&_, false≢true}
+use mathlib.Core.Bool.{Bool, true, false, not, false≢true}
 use mathlib.Core.List.{List, map}
 use mathlib.Core.Logic.{_⊎_, inl, inr}
 use native.Mathlib.Omega.{arith}
@@ -26,10 +26,11 @@ use Rattle.model.specs.Cycles.{start, finish, ready}
 use Rattle.model.specs.Rounds.{earliest, R, rival, apart, windows, apartCount}
 use Rattle.model.proofs.Sets.{count-ext, count-zero}
 use Rattle.model.proofs.Settled.{windows-settled}
-use Rattle.model.proofs.Rules.{lowest-some, Clear, apart-clear, clear-apart}
+use Rattle.model.proofs.Latencies.{lowest-some}
+use Rattle.model.proofs.Rules.{Clear, apart-clear, clear-apart}
 use Rattle.schedules.proofs.Sum.{wt}
 use Rattle.schedules.proofs.Graph.{ready-done, done-ready, total-more}
-use Rattle.theory.specs.Sequence.{knownAt, lateAt, apartAt}
+use Rattle.theory.specs.Sequence.{knownAt, lateAt, apartBy, apartAt}
 use Rattle.theory.proofs.Known.{found, none-first, found-apart, apart-found, kept-or-found, kept, found-known, last-round}
 use Rattle.theory.proofs.Rounds.{G, EX-node, late, at-EX, off-EX}
 
@@ -115,7 +116,7 @@ module _ (b : Block) (A : Ranges b) where
 
   -- SO A PAIR THAT A ROUND FINDS APART IS APART AFTER THE NEXT
   pub next-apart : (k i j : ℕ) → i < b .n → j < b .n → apartAt b k i j ≡ true → apartAt b (suc k) i j ≡ true
-  unfolding apartAt finish
+  unfolding apartBy finish
   next-apart k i j hi hj t =
       let c = apart-clear b (earliest b) (lateAt b k) i j (and-right contends (apart b (earliest b) (lateAt b k) i j) t) in
       and-both contends (apart b (earliest b) (lateAt b (suc k)) i j) (and-left contends (apart b (earliest b) (lateAt b k) i j) t)
@@ -172,15 +173,14 @@ module _ (b : Block) (A : Ranges b) where
       go (inl t) = t
       go (inr t) = absurd (false≢true (sym (none-found i j h l) ∙ t))
 
-  shown : (i j : ℕ) → i < j → j < b .n → has (windows b .known) i j ≡ (has (contending b) i j && apart b (earliest b) (windows b .late) i j)
-  unfolding apartAt
+  shown : (i j : ℕ) → i < j → j < b .n → has (windows b .known) i j ≡ apartBy b (windows b .late) i j
   shown i j h l =
       ap (λ (m : Pairs). has m i j) (last-round b .known)
       ∙ same-known i j h l
       ∙ known-apart i j (omega arith) l last
-      ∙ ap (λ (s : List ℕ). has (contending b) i j && apart b (earliest b) s i j) (sym (last-round b .late))
+      ∙ ap (λ (s : List ℕ). apartBy b s i j) (sym (last-round b .late))
 
   -- THE PAIRS APART ARE THOSE THAT THE WINDOWS SHOW
-  pub count-shown : apartCount b ≡ count (b .n) (λ i j. has (contending b) i j && apart b (earliest b) (windows b .late) i j)
+  pub count-shown : apartCount b ≡ count (b .n) (apartBy b (windows b .late))
   unfolding apartCount
-  count-shown = count-ext (b .n) (has (windows b .known)) (λ i j. has (contending b) i j && apart b (earliest b) (windows b .late) i j) shown
+  count-shown = count-ext (b .n) (has (windows b .known)) (apartBy b (windows b .late)) shown

@@ -13,7 +13,7 @@ use Rattle.model.specs.Paths.{has, count, contending}
 use Rattle.model.specs.Rounds.{earliest, rival, round, apart, new, Windows, roundsFrom, windows, pairCount}
 use Rattle.model.proofs.Sets.{has-pairs}
 use Rattle.model.proofs.Settled.{rivals-parted, above, all-rivals}
-use Rattle.theory.specs.Sequence.{knownAt, lateAt, apartAt}
+use Rattle.theory.specs.Sequence.{knownAt, lateAt, apartBy, apartAt}
 
 -- ---- kept or found
 module _ (b : Block) where
@@ -37,14 +37,14 @@ module _ (b : Block) where
 
     -- what is found is apart
     pub found-apart : found k i j ≡ true → apartAt b k i j ≡ true
-    unfolding apartAt new rival
+    unfolding apartBy new rival
     found-apart t =
         let c : (contends && not isKnown) ≡ true = and-left (contends && not isKnown) isApart t in
         and-both contends isApart (and-left contends (not isKnown) c) (and-right (contends && not isKnown) isApart t)
 
     -- and what is apart and was not known is found
     pub apart-found : apartAt b k i j ≡ true → isKnown ≡ false → found k i j ≡ true
-    unfolding apartAt new rival
+    unfolding apartBy new rival
     apart-found t f =
         and-both (contends && not isKnown) isApart (and-both contends (not isKnown) (and-left contends isApart t) (ap not f))
         (and-right contends isApart t)

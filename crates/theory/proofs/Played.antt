@@ -12,12 +12,12 @@ use borrow.Author.Tests.{eqb-true, leb-true, leb-false, not-false}
 use Rattle.seqs.proofs.Tests.{by-test}
 use Rattle.record.specs.declared.Block.{Block}
 use Rattle.record.proofs.Ranges.{Ranges, ranges}
-use Rattle.model.specs.Nodes.{nodes, instruction, isEX, latency, lowest, highest, chosen}
+use Rattle.model.specs.Nodes.{nodes, instruction, lowest, highest, chosen}
 use Rattle.model.specs.Cycles.{State, notStarted, start, started, finish, nothing, over, playOn, play, ready}
 use Rattle.model.specs.Rounds.{earliest, R, windows}
 use Rattle.model.proofs.Lines.{earliest-is}
 use Rattle.model.proofs.Limit.{windows-limit}
-use Rattle.model.proofs.Rules.{lowest-some, lowest-highest}
+use Rattle.model.proofs.Latencies.{latency-mono, lowest-some, lowest-highest}
 use Rattle.schedules.proofs.Net.{Fits, Sched}
 use Rattle.schedules.proofs.Sound.{early-ready}
 use Rattle.schedules.proofs.Graph.{ready-done, done-ready}
@@ -27,7 +27,7 @@ use Rattle.schedules.proofs.Ends.{play-started, play-sched}
 use Rattle.play.proofs.Listed.{ranged}
 use Rattle.theory.specs.Words.{AcceptedBlock, ByteLatencies, AcceptedList, Inside}
 use Rattle.theory.proofs.Rounds.{G, earliest-early}
-use Rattle.theory.proofs.Windows.{windows-start, windows-ready}
+use Rattle.theory.proofs.Windows.{Late, windows-bound}
 
 -- no latest start reaches 513 n
 pub late-below : (b : Block) (accepted : AcceptedBlock b) → ByteLatencies b → (v : ℕ) → v < nodes b → start (windows b .late) v < 513 * b .n
@@ -59,21 +59,19 @@ module _ (b : Block) (accepted : AcceptedBlock b) (bytes : ByteLatencies b) (lat
       (omega (arith, ready-start v l, begins-below v l))
       (ready-done b A (lowest b) (lowest-some b A) lat (play b lat) v (ready b lat (play b lat) v) (omega arith))
 
-  late-start : (v : ℕ) → v < nodes b → start (play b lat) v ≤ start (windows b .late) v
-  late-start = windows-start b A lat fits 30780 (start (play b lat)) sched
+  by-windows : (v : ℕ) → v < nodes b → Late b A lat fits 30780 (start (play b lat)) sched (windows b .late) v
+  by-windows = windows-bound b A lat fits 30780 (start (play b lat)) sched
 
   late-ready : (v : ℕ) → v < nodes b → ready b lat (play b lat) v ≤ R b (windows b .late) v
-  late-ready v l =
-      done-ready b A (lowest b) (lowest-some b A) lat (play b lat) v (R b (windows b .late) v)
-      (windows-ready b A lat fits 30780 (start (play b lat)) sched v l)
+  late-ready v l = done-ready b A (lowest b) (lowest-some b A) lat (play b lat) v (R b (windows b .late) v) (by-windows v l .ready)
 
   pub play-inside : (v : ℕ) → v < nodes b → Inside b lat v
   unfolding finish
   play-inside v l =
       record {
         readyIn = record { from = omega (arith, earliest-is b A v l, early-first v l); to = late-ready v l };
-        startIn = record { from = omega (arith, early-first v l, ready-start v l); to = late-start v l };
-        finishIn = record { from = omega (arith, early-first v l, ready-start v l, fits .low v l); to = omega (arith, late-start v l, fits .high v l) };
+        startIn = record { from = omega (arith, early-first v l, ready-start v l); to = by-windows v l .start };
+        finishIn = record { from = omega (arith, early-first v l, ready-start v l, fits .low v l); to = by-windows v l .finish };
       }
 
   -- ---- the state after k cycles, or the one in which all have started if that is sooner
@@ -89,7 +87,7 @@ module _ (b : Block) (accepted : AcceptedBlock b) (bytes : ByteLatencies b) (lat
 
     -- what has started did so by its latest start, and what has not is not past it
     seen-by : (v : ℕ) → v < nodes b → seen (state .t) (state .starts) v ≤ start (windows b .late) v
-    seen-by = windows-start b A lat fits (state .t) (seen (state .t) (state .starts)) (stopped .0 .sched)
+    seen-by v l = windows-bound b A lat fits (state .t) (seen (state .t) (state .starts)) (stopped .0 .sched) v l .start
 
     few-wait : (v : ℕ) → v < nodes b → started (state .starts) v ≡ false → k ≤ start (windows b .late) v
     unfolding started
@@ -139,9 +137,9 @@ module _ (b : Block) (accepted : AcceptedBlock b) (bytes : ByteLatencies b) (lat
 
 -- ---- the latencies that an accepted list chooses
 pub chosen-fits : (b : Block) (accepted : AcceptedBlock b) (l : List ℕ) → AcceptedList b l → Fits (G b (ranges b accepted)) (chosen b l)
-unfolding lowest highest chosen latency
+unfolding lowest highest chosen
 chosen-fits b accepted l listed =
     record {
-      low = λ v h. by-test (isEX v) (λ t. rw t (ranged b l listed (instruction v) (omega arith) .0)) (λ f. rw f (omega arith));
-      high = λ v h. by-test (isEX v) (λ t. rw t (ranged b l listed (instruction v) (omega arith) .1)) (λ f. rw f (omega arith));
+      low = λ v h. latency-mono _ _ v (ranged b l listed (instruction v) (omega arith) .0);
+      high = λ v h. latency-mono _ _ v (ranged b l listed (instruction v) (omega arith) .1);
     }

@@ -29,7 +29,8 @@ use Rattle.model.specs.Cycles.{start, finish, ready}
 use Rattle.model.specs.Rounds.{earliest, R, rival, latestStart, round}
 use Rattle.model.proofs.Lines.{earliest-is, round-is}
 use Rattle.model.proofs.Reached.{contend-or-path}
-use Rattle.model.proofs.Rules.{lowest-some, highs, ends, held, EX-short}
+use Rattle.model.proofs.Latencies.{lowest-some}
+use Rattle.model.proofs.Rules.{highs, ends, held, EX-short}
 use Rattle.schedules.proofs.Sum.{wt, sum-front, max-least}
 use Rattle.schedules.proofs.Net.{Net, Way, by-fin, by-ord, then-fin, then-ord, Done}
 use Rattle.schedules.proofs.Sound.{Early, earlier, base, early-sum, early-last, Round}

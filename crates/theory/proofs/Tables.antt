@@ -4,16 +4,16 @@ use Prim.Native.Nat.{ℕ, zero, suc, _+_, _*_, _/_, _%_, _≤_, _<_}
 use mathlib.Core.Path.{_≡_, refl, ap, _∙_}
 use mathlib.Core.List.{List, _++_}
 use native.Mathlib.Omega.{arith}
-use lib.ListN.{length, getD, drop, List·getD-append}
-use Rattle.seqs.proofs.Places.{length-joined, getD-joined}
+use lib.ListN.{getD, drop, List·getD-append}
 use Rattle.record.specs.declared.Answer.{Answer}
 use Rattle.record.specs.declared.Answer.the-variants.{Accepted}
 use Rattle.record.specs.declared.Block.{Block}
 use Rattle.record.proofs.Ranges.{Ranges, ranges}
-use Rattle.model.specs.Nodes.{nodes, instruction, lowest, highest, chosen}
+use Rattle.model.specs.Nodes.{nodes, instruction, highest, chosen}
 use Rattle.model.specs.Paths.{contending}
-use Rattle.model.specs.Cycles.{finish, ready, play, times, playTable}
-use Rattle.model.specs.Rounds.{earliest, R, windows, windowTable}
+use Rattle.model.specs.Cycles.{finish, ready, times, playTable}
+use Rattle.model.specs.Rounds.{R, windows, windowTable}
+use Rattle.model.proofs.Tables.{six, window-at, length-windows, three, play-at, length-plays}
 use Rattle.model.proofs.Lines.{earliest-is}
 use Rattle.model.proofs.Settled.{windows-settled}
 use Rattle.model.proofs.Limit.{earliest-limit, ready-limit, windows-limit}
@@ -24,40 +24,8 @@ use Rattle.play.proofs.Outcomes.{accepted-so}
 use Rattle.theory.specs.Words.{AcceptedBlock, ByteLatencies, Within, Inside}
 
 module _ (b : Block) where
-  -- the six numbers of node v
-  abbrev six : ℕ → List ℕ
-  six v = times b (lowest b) (earliest b) v ++ times b (highest b) (windows b .late) v
-
-  six-wide : (v : ℕ) → length (six v) ≡ 6
-  unfolding times
-  six-wide v = refl
-
-  pub window-at : (v k : ℕ) → v < nodes b → k < 6 → getD (windowTable b) (6 * v + k) 0 ≡ getD (six v) k 0
-  unfolding windowTable
-  window-at v k h q = getD-joined 6 six six-wide 0 (nodes b) v k h q
-
-  pub length-windows : length (windowTable b) ≡ 30 * b .n
-  unfolding windowTable
-  length-windows = length-joined 6 six six-wide (nodes b) ∙ omega arith
-
   module _ (lat : ℕ → ℕ) where
-    -- the three of the play
-    abbrev three : ℕ → List ℕ
-    three = times b lat (play b lat)
-
-    three-wide : (v : ℕ) → length (three v) ≡ 3
-    unfolding times
-    three-wide v = refl
-
-    pub play-at : (v k : ℕ) → v < nodes b → k < 3 → getD (playTable b lat) (3 * v + k) 0 ≡ getD (three v) k 0
-    unfolding playTable
-    play-at v k h q = getD-joined 3 three three-wide 0 (nodes b) v k h q
-
-    pub length-plays : length (playTable b lat) ≡ 15 * b .n
-    unfolding playTable
-    length-plays = length-joined 3 three three-wide (nodes b) ∙ omega arith
-
-    each-within : (v k : ℕ) → k < 3 → Inside b lat v → Within (getD (six v) k 0) (getD (three v) k 0) (getD (six v) (3 + k) 0)
+    each-within : (v k : ℕ) → k < 3 → Inside b lat v → Within (getD (six b v) k 0) (getD (three b lat v) k 0) (getD (six b v) (3 + k) 0)
     unfolding times R
     each-within v zero h i = i .readyIn
     each-within v (suc zero) h i = i .startIn
@@ -68,7 +36,7 @@ module _ (b : Block) where
         → Within (getD (windowTable b) (6 * v + k) 0) (getD (playTable b lat) (3 * v + k) 0) (getD (windowTable b) (6 * v + 3 + k) 0)
     table-within v k h q i =
         let e : 6 * v + 3 + k ≡ 6 * v + (3 + k) = omega arith in
-        rw (e, window-at v k h (omega arith), window-at v (3 + k) h (omega arith), play-at v k h q) (each-within v k q i)
+        rw (e, window-at b v k h (omega arith), window-at b v (3 + k) h (omega arith), play-at b lat v k h q) (each-within v k q i)
 
   -- ---- no number of the window table exceeds 513 n
   module _ (accepted : AcceptedBlock b) (bytes : ByteLatencies b) where
@@ -79,7 +47,7 @@ module _ (b : Block) where
     unfolding R
     by-settled v h = rw (windows-settled b .late) (ready-limit b A bytes (contending b) (windows b .known) v h)
 
-    each-few : (v k : ℕ) → v < nodes b → k < 6 → getD (six v) k 0 ≤ 513 * b .n
+    each-few : (v k : ℕ) → v < nodes b → k < 6 → getD (six b v) k 0 ≤ 513 * b .n
     unfolding times finish
     each-few v zero h q = omega (arith, earliest-is b A v h, earliest-limit b A bytes v h)
     each-few v (suc zero) h q = omega (arith, earliest-limit b A bytes v h)
@@ -94,7 +62,7 @@ module _ (b : Block) where
         let e : k ≡ 6 * (k / 6) + k % 6 = omega arith in
         let v : k / 6 < nodes b = omega arith in
         let q : k % 6 < 6 = omega arith in
-        omega (arith, ap (λ (x : ℕ). getD (windowTable b) x 0) e, window-at (k / 6) (k % 6) v q, each-few (k / 6) (k % 6) v q)
+        omega (arith, ap (λ (x : ℕ). getD (windowTable b) x 0) e, window-at b (k / 6) (k % 6) v q, each-few (k / 6) (k % 6) v q)
 
 -- ---- what the operations leave in their outputs has the tables at its front
 pub window-kept : (b : Block) (o o' : List ℕ) (a : Answer) → Tables b o a o' → a ≡ Accepted → (k : ℕ) → k < 30 * b .n → getD o' k 0 ≡ getD (windowTable b) k 0

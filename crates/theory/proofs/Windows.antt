@@ -18,13 +18,17 @@ use Rattle.model.specs.Paths.{has, contending}
 use Rattle.model.specs.Cycles.{start, finish}
 use Rattle.model.specs.Rounds.{earliest, R, apart, windows}
 use Rattle.model.proofs.Rules.{Clear, apart-clear}
-use Rattle.schedules.proofs.Net.{Fits, Done, Sched}
-use Rattle.schedules.proofs.Sound.{start-bound, ready-bound}
-use Rattle.theory.specs.Sequence.{knownAt, lateAt, apartAt}
+use Rattle.schedules.proofs.Net.{Fits, Sched}
+use Rattle.schedules.proofs.Sound.{Bounded, bounded}
+use Rattle.theory.specs.Sequence.{knownAt, lateAt, apartBy}
 use Rattle.theory.proofs.Known.{found, none-first, found-apart, kept-or-found, last-round}
 use Rattle.theory.proofs.Rounds.{G, earliest-early, EX-node, delays, delaysLater, Parted, model-round}
 
 module _ (b : Block) (A : Ranges b) (lat : ℕ → ℕ) (F : Fits (G b A) lat) (H : ℕ) (s : ℕ → ℕ) (P : Sched (G b A) lat H s) where
+  -- the latest starts t, with the ready times and finishes that they give, bound it
+  abbrev pub Late : List ℕ → ℕ → Type 0
+  Late t = Bounded (G b A) lat s (λ v. R b t v) (start t) (λ v. start t v + highest b v)
+
   -- the pairs known in round k are apart in it
   abbrev Sound : ℕ → Type 0
   Sound k =
@@ -35,23 +39,16 @@ module _ (b : Block) (A : Ranges b) (lat : ℕ → ℕ) (F : Fits (G b A) lat) (
     abbrev late : List ℕ
     late = lateAt b k
 
-    by-start : (v : ℕ) → v < nodes b → s v ≤ start late v
+    bounds : (v : ℕ) → v < nodes b → Late late v
     unfolding lateAt
-    by-start =
-        start-bound (G b A) lat F H s P (start (earliest b)) (earliest-early b A) (Parted (knownAt b k)) S
-        (delays b (knownAt b k)) (delaysLater b (knownAt b k)) (λ v. R b late v) (start late) (λ v. start late v + highest b v)
-        (model-round b (knownAt b k) A)
-
-    by-ready : (v : ℕ) → v < nodes b → Done (G b A) lat s v (R b late v)
-    unfolding lateAt
-    by-ready =
-        ready-bound (G b A) lat F H s P (start (earliest b)) (earliest-early b A) (Parted (knownAt b k)) S
+    bounds =
+        bounded (G b A) lat F H s P (start (earliest b)) (earliest-early b A) (Parted (knownAt b k)) S
         (delays b (knownAt b k)) (delaysLater b (knownAt b k)) (λ v. R b late v) (start late) (λ v. start late v + highest b v)
         (model-round b (knownAt b k) A)
 
     by-finish : (v : ℕ) → v < nodes b → s v + lat v ≤ finish (highest b) late v
     unfolding finish
-    by-finish v l = omega (arith, by-start v l, F .high v l)
+    by-finish v l = bounds v l .finish
 
     -- a pair that is found after the round
     found-sound : (u v : ℕ) → u < nodes b → v < nodes b → isEX u ≡ true → isEX v ≡ true → Clear b (earliest b) late (instruction v) (instruction u)
@@ -63,7 +60,7 @@ module _ (b : Block) (A : Ranges b) (lat : ℕ → ℕ) (F : Fits (G b A) lat) (
 
     -- so the pairs known in the next round are apart too
     next-sound : Sound (suc k)
-    unfolding apartAt
+    unfolding apartBy
     next-sound u v lu lv p = go (kept-or-found b k i j (omega arith) (omega arith) (p .known-so))
       where
         i : ℕ
@@ -83,8 +80,5 @@ module _ (b : Block) (A : Ranges b) (lat : ℕ → ℕ) (F : Fits (G b A) lat) (
   sound (suc k) = next-sound k (sound k)
 
   -- EVERY ROUND BOUNDS EVERY SCHEDULE, AND SO THE WINDOWS DO
-  pub windows-start : (v : ℕ) → v < nodes b → s v ≤ start (windows b .late) v
-  windows-start v l = rw (last-round b .late) (by-start (windows b .rounds - 1) (sound (windows b .rounds - 1)) v l)
-
-  pub windows-ready : (v : ℕ) → v < nodes b → Done (G b A) lat s v (R b (windows b .late) v)
-  windows-ready v l = rw (last-round b .late) (by-ready (windows b .rounds - 1) (sound (windows b .rounds - 1)) v l)
+  pub windows-bound : (v : ℕ) → v < nodes b → Late (windows b .late) v
+  windows-bound = let k = windows b .rounds - 1 in rw (last-round b .late) (bounds k (sound k))

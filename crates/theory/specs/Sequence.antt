@@ -18,6 +18,10 @@ knownAt b (suc k) =
 unfoldable pub lateAt : Block → ℕ → List ℕ
 lateAt b k = round b (contending b) (knownAt b k)
 
--- "After the round a contending pair is apart if one's latest finish is at most the other's earliest ready."
-unfoldable pub apartAt : Block → ℕ → ℕ → ℕ → Bool
-apartAt b k i j = has (contending b) i j && apart b (earliest b) (lateAt b k) i j
+-- "a contending pair is apart if one's latest finish is at most the other's earliest ready.", late having the latest starts
+unfoldable pub apartBy : Block → List ℕ → ℕ → ℕ → Bool
+apartBy b late i j = has (contending b) i j && apart b (earliest b) late i j
+
+-- "After the round"
+abbrev pub apartAt : Block → ℕ → ℕ → ℕ → Bool
+apartAt b k = apartBy b (lateAt b k)
