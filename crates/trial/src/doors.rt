@@ -1,18 +1,10 @@
 // Refusals of the analysis and of the window table, and what they leave of their output.
-use crate::crowded::crowded;
-use crate::show::answer;
-use crate::show::number;
-use crate::show::text;
 use record::Block;
-
-// Whether all numbers from `first` on are as they were filled in.
-pub fn untouched(s: &[u16], first: usize) -> bool {
-    let mut same = true;
-    for k in first..s.len() {
-        same = same & (s[k] == 43690);
-    }
-    same
-}
+use samples::crowded::crowded;
+use samples::show::answer;
+use samples::show::number;
+use samples::show::text;
+use samples::sums::untouched;
 
 fn left(all: bool, beyond: bool) {
     if all {

@@ -1,21 +1,16 @@
 // The analysis and the window table: lines of what the result record holds, and a sum over all that both write.
-ghost use Prim.Native.Nat.{_<_};
-use crate::crowded::crowded;
-use crate::made::next;
-use crate::plays::lengths;
-use crate::show::count;
-use crate::show::number;
-use crate::show::text;
 use record::Block;
+use samples::crowded::crowded;
+use samples::lists::latencies;
+use samples::made::next;
+use samples::show::count;
+use samples::show::named;
+use samples::show::text;
+use samples::sums::sum_numbers;
+use samples::sums::summed;
 
 fn two(low: u8, high: u8) -> usize {
     low as usize + 256 * (high as usize)
-}
-
-// A number with what it is.
-pub fn named(name: &[u8], n: usize) {
-    text(name);
-    number(n);
 }
 
 // The bound and the counts of a block, out of its result record.
@@ -27,6 +22,20 @@ fn numbers(b: Block) {
     named(b" pairs ", two(s[14], s[15]));
     named(b" apart ", two(s[16], s[17]));
     text(b"\n");
+}
+
+// The lengths with all lowest and with all highest latencies.
+fn lengths(b: Block) {
+    let low = latencies(b, 0, 0);
+    let high = latencies(b, 1, 0);
+    let n = b.n as usize;
+    if n <= 100 {
+        let l = play::play_length(b, &low[0..n]);
+        let h = play::play_length(b, &high[0..n]);
+        named(b"  length ", l.cycles as usize);
+        named(b" at lowest ", h.cycles as usize);
+        text(b" at highest");
+    }
 }
 
 // How long a block's plays are, its bound and its counts.
@@ -46,17 +55,6 @@ pub fn sizes() {
     }
 }
 
-pub fn wide(x: u16) -> u64
-    ensures { λ r. ⌜ r < 65536 ⌝ }
-{
-    x as u64
-}
-
-// The sum with one number more.
-pub fn summed(sum: u64, x: u16) -> u64 {
-    (sum % 4294967291 * 65599 + wide(x)) % 4294967291
-}
-
 fn small(x: u8) -> u16 {
     x as u16
 }
@@ -65,14 +63,6 @@ fn sum_bytes(sum: u64, s: &[u8; 512]) -> u64 {
     let mut t = sum;
     for k in 0..512 {
         t = summed(t, small(s[k]));
-    }
-    t
-}
-
-pub fn sum_numbers(sum: u64, s: &[u16]) -> u64 {
-    let mut t = sum;
-    for k in 0..s.len() {
-        t = summed(t, s[k]);
     }
     t
 }
