@@ -1,4 +1,4 @@
-// Sums over numbers and bytes, and the check of a record.
+// Numbers widened, sums over them, and whether they are as they were filled in.
 ghost use Prim.Native.Nat.{_<_};
 
 pub fn of_byte(x: u8) -> u64
@@ -33,16 +33,4 @@ pub fn untouched(s: &[u16], first: usize) -> bool {
         same = same & (s[k] == 43690);
     }
     same
-}
-
-// The check with the sums reduced at the end: 4294836225 is 65535 times 65535, and keeps them small till then.
-pub fn check(s: &[u8; 512]) -> u64 {
-    let mut a: u64 = 0;
-    let mut b: u64 = 0;
-    for k in 0..254 {
-        let word = of_byte(s[2 * k]) + 256 * of_byte(s[2 * k + 1]);
-        a = (a + word) % 4294836225;
-        b = (b + a) % 4294836225;
-    }
-    b % 65535 * 65536 + a % 65535
 }

@@ -1,4 +1,4 @@
-// Made blocks of every size and shape, and what a result record and a play table are held to.
+// Made blocks of every size and shape, and the words of a result record.
 use record::Block;
 use record::Entry;
 use samples::crowded::crowded;

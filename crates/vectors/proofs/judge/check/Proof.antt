@@ -1,8 +1,8 @@
--- `samples::sums::check` is safe and ends. Assumes nothing.
+-- `vectors::judge::check` is safe and ends. Assumes nothing.
 use Prim.Native.Nat.{_≤_, _<_, _-_}
 use borrow.Author.Needs.{needs}
-use Rattle.samples.proofs.sums.check.Statement.{statement}
-use Rattle.samples.proofs.sums.check.Tie as tie
+use Rattle.vectors.proofs.judge.check.Statement.{statement}
+use Rattle.vectors.proofs.judge.check.Tie as tie
 
 abbrev Inv-loop : tie.InvT-loop
 Inv-loop s a₀ b₀ k₀ a b k = (k ≤ 254) × (a < 4294836225) × (b < 4294836225)
