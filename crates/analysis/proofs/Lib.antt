@@ -1,4 +1,4 @@
 pub mod Outcomes
-pub mod Resulted
-pub mod Tabled
-pub mod Fronted
+pub mod ResultRecord
+pub mod WindowTable
+pub mod TimesFront

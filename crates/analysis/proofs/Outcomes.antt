@@ -12,10 +12,10 @@ use Rattle.record.specs.declared.Block.{Block}
 use Rattle.record.specs.declared.Reason.{Reason}
 use Rattle.record.specs.declared.Reason.the-variants.{Output}
 use Rattle.record.proofs.Answers.{outcome-one}
-use Rattle.record.proofs.Writes.{Outcome, put-refused, put-output, put-done, put-fine}
+use Rattle.record.proofs.OutputVerdicts.{Outcome, put-refused, put-output, put-done, put-fine}
 use Rattle.model.specs.Rounds.{windowTable}
 use Rattle.analysis.specs.Result.{result, analyseTests, windowTests, analysed, tabled}
-use Rattle.analysis.specs.Promises.{Analyses, Tables}
+use Rattle.analysis.specs.Promises.{Analyses, WritesWindows}
 
 -- ---- the analysis
 module _ (b : Block) (o : List ℕ) where
@@ -43,17 +43,17 @@ module _ (b : Block) (o : List ℕ) where
 
 -- ---- the window table
 module _ (b : Block) (o : List ℕ) where
-  tabled-so : (a : Answer) (p : List ℕ) → Outcome b (leb (30 * b .n) (length o)) (windowTable b ++ drop (30 * b .n) o) o a p → Tables b o a p
+  tabled-so : (a : Answer) (p : List ℕ) → Outcome b (leb (30 * b .n) (length o)) (windowTable b ++ drop (30 * b .n) o) o a p → WritesWindows b o a p
   unfolding windowTests tabled
   tabled-so a p x = record { answer = x .answer; output = x .output }
 
-  pub windows-refused : (r : Reason) (a : Answer) → a ≡ Refused r → meaning a ≡ blockVerdict b → Tables b o a o
+  pub windows-refused : (r : Reason) (a : Answer) → a ≡ Refused r → meaning a ≡ blockVerdict b → WritesWindows b o a o
   windows-refused r a e h = tabled-so a o (put-refused b _ _ o r a e h)
 
-  pub windows-output : blockVerdict b ≡ (0, 0) → length o < 30 * b .n → Tables b o (Refused Output) o
+  pub windows-output : blockVerdict b ≡ (0, 0) → length o < 30 * b .n → WritesWindows b o (Refused Output) o
   windows-output z h = tabled-so _ o (put-output b _ _ o z (lt-leb (30 * b .n) (length o) h))
 
-  pub windows-done : blockVerdict b ≡ (0, 0) → 30 * b .n ≤ length o → (p : List ℕ) → p ≡ windowTable b ++ drop (30 * b .n) o → Tables b o Accepted p
+  pub windows-done : blockVerdict b ≡ (0, 0) → 30 * b .n ≤ length o → (p : List ℕ) → p ≡ windowTable b ++ drop (30 * b .n) o → WritesWindows b o Accepted p
   windows-done z h p e = tabled-so _ p (put-done b _ _ o z (le-leb (30 * b .n) (length o) h) p e)
 
   -- what an accepted window table is
@@ -62,5 +62,5 @@ module _ (b : Block) (o : List ℕ) where
   windows-fine z = let f = put-fine b _ z in (f .0, leb-true _ _ (f .1))
 
   -- the window table has one outcome
-  pub windows-one : (x y : Answer) (p q : List ℕ) → Tables b o x p → Tables b o y q → (x ≡ y) × (p ≡ q)
+  pub windows-one : (x y : Answer) (p q : List ℕ) → WritesWindows b o x p → WritesWindows b o y q → (x ≡ y) × (p ≡ q)
   windows-one x y p q u v = outcome-one x y p q (u .answer) (u .output) (v .answer) (v .output)

@@ -14,6 +14,6 @@ pub record Analyses (b : Block) (o : List ℕ) (a : Answer) (o' : List ℕ) : Ty
   pub output : o' ≡ analysed b o
 
 -- the same of the window table
-pub record Tables (b : Block) (o : List ℕ) (a : Answer) (o' : List ℕ) : Type 0 where
+pub record WritesWindows (b : Block) (o : List ℕ) (a : Answer) (o' : List ℕ) : Type 0 where
   pub answer : meaning a ≡ verdict (windowTests b o)
   pub output : o' ≡ tabled b o

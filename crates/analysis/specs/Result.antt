@@ -3,8 +3,8 @@ use Prim.Native.Nat.{ℕ, _*_}
 use mathlib.Core.List.{List, [], _∷_, _++_}
 use lib.ListN.{length, drop, replicate}
 use lib.Dec.{eqb, leb, ltb}
-use Rattle.seqs.specs.Lists.{pick, joined}
-use Rattle.seqs.specs.Bytes.{bytes}
+use Rattle.lists.specs.Lists.{pick, joined}
+use Rattle.lists.specs.Bytes.{bytes}
 use Rattle.record.specs.Check.{checkOf}
 use Rattle.record.specs.Refusals.{Test, verdict, accepts, outputTest, blockTests}
 use Rattle.record.specs.declared.Block.{Block}

@@ -1,6 +1,6 @@
 // The analysis of a block: its result record and its window table.
-mod doors;
-mod tables;
+mod operations;
+mod outputs;
 
-pub use doors::analyse;
-pub use doors::windows;
+pub use operations::analyse;
+pub use operations::windows;

@@ -14,20 +14,20 @@ use native.Mathlib.Omega.{arith}
 use lib.ListN.{getD}
 use lib.Dec.{leb, eqb}
 use borrow.Author.Tests.{eqb-true, eq-eqb, ne-eqb, le-leb, leb-true, leb-false}
-use Rattle.seqs.specs.Lists.{In, Every, tab}
-use Rattle.seqs.specs.Sums.{any}
-use Rattle.seqs.proofs.Tests.{by-test, or-cases, or-first, or-second, same-test}
-use Rattle.seqs.proofs.Members.{in-split, in-left, in-right, _▸_, every, any-find, any-in, any-ext}
-use Rattle.seqs.proofs.Tables.{length-tab, getD-tab, is-tab}
-use Rattle.seqs.proofs.InOrder.{inOrder-keeps}
+use Rattle.lists.specs.Lists.{In, Every, tab}
+use Rattle.lists.specs.Sums.{any}
+use Rattle.lists.proofs.Bools.{by-test, or-cases, or-first, or-second, same-test}
+use Rattle.lists.proofs.Members.{in-split, in-left, in-right, _▸_, every, any-find, any-in, any-ext}
+use Rattle.lists.proofs.TableByIndex.{length-tab, getD-tab, is-tab}
+use Rattle.lists.proofs.InOrder.{inOrder-keeps}
 use Rattle.record.specs.declared.Block.{Block}
-use Rattle.record.proofs.Ranges.{Ranges}
+use Rattle.record.proofs.AcceptedRanges.{Ranges}
 use Rattle.model.specs.Nodes.{ID, EX, WB, CM, node, stage, instruction, entry, Edges, edges, finishEdges, orderEdges, sources, finishInto, orderInto}
 use Rattle.model.specs.Paths.{edgesInto, Path, Pairs, has, paths, contend, contending}
 use Rattle.model.specs.Paths.Path.{edge, on}
-use Rattle.model.specs.Registers.{chains}
+use Rattle.model.specs.inside.RegisterChains.{chains}
 use Rattle.model.proofs.Predecessors.{Leads, into-leads, Sourced, finish-cases, finish-on, source-on, edge-on, sources-before}
-use Rattle.model.proofs.Reached.{path-up, paths-path, path-paths, contending-at, contending-contends}
+use Rattle.model.proofs.Contention.{path-up, paths-path, path-paths, contending-at, contending-contends}
 
 -- a chain of registers: j reads what i was the last to write, or what one was to which a chain leads from i
 pub data Chain (b : Block) : ℕ → ℕ → Type 0 where

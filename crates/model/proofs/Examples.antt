@@ -5,17 +5,17 @@ use mathlib.Core.Path.{_≡_, refl}
 use mathlib.Core.Bool.{true, false}
 use mathlib.Core.List.{List, [], _∷_}
 use lib.ListN.{replicate, set}
-use Rattle.seqs.specs.Lists.{tab, tabFrom, least, leastFrom, exists, those, thoseFrom, inOrder, joined}
-use Rattle.seqs.specs.Sums.{largest, total, none, any, all}
+use Rattle.lists.specs.Lists.{tab, tabFrom, least, leastFrom, exists, numbersWhere, numbersWhereFrom, inOrder, joined}
+use Rattle.lists.specs.Sums.{largest, sum, none, any, all}
 use Rattle.record.specs.Layout.{noEntry}
 use Rattle.record.specs.declared.Block.{Block}
 use Rattle.record.specs.declared.Entry.{Entry}
 use Rattle.model.specs.Nodes.{latency, lowest, highest, chosen, finishEdges, lastWriter, source, sources, orderEdges, into, finishInto, orderInto}
 use Rattle.model.specs.Paths.{edgesInto, reached, pairs, count, paths, contend, contending}
-use Rattle.model.specs.Cycles.{State, notStarted, started, unfit, finish, ready, runs, units, free, begins, turns, cycle, nothing, over, playOn, play, playLength, times, playTable}
+use Rattle.model.specs.Cycles.{State, notStarted, started, unfit, finish, ready, runs, units, free, begins, turns, cycle, firstState, allStarted, playOn, play, playLength, threeTimes, playTable}
 use Rattle.model.specs.Rounds.{earliest, R, rival, B, behind, latestEX, latestStart, round, apart, new, roundsFrom, pairCount, windows, roundCount, apartCount, bound, windowTable}
 use Rattle.model.specs.Blocks.{blockA, blockB, blockE}
-use Rattle.model.proofs.Worked.{summary}
+use Rattle.model.proofs.WorkedResults.{summary}
 
 -- kind, lo, hi, register written, registers read
 abbrev does : ℕ → ℕ → ℕ → ℕ → ℕ → ℕ → Entry
@@ -53,12 +53,12 @@ sixteen = record {
 
 -- bound, rounds, pairs, apart
 pub sixteen-summary : summary sixteen ≡ 50 ∷ 3 ∷ 25 ∷ 7 ∷ []
-unfolding sixteen summary tab tabFrom those thoseFrom inOrder largest total none any latency lowest highest finishEdges lastWriter source sources orderEdges into finishInto orderInto edgesInto reached pairs count paths contend contending finish ready earliest R rival B behind latestEX latestStart round apart new roundsFrom pairCount windows roundCount apartCount bound
+unfolding sixteen summary tab tabFrom numbersWhere numbersWhereFrom inOrder largest sum none any latency lowest highest finishEdges lastWriter source sources orderEdges into finishInto orderInto edgesInto reached pairs count paths contend contending finish ready earliest R rival B behind latestEX latestStart round apart new roundsFrom pairCount windows roundCount apartCount bound
 sixteen-summary = refl
 
 -- the play of all the highest latencies is shorter than the bound
 pub sixteen-play : playLength sixteen (highest sixteen) ≡ 42
-unfolding sixteen least leastFrom exists those thoseFrom all latency highest finishEdges lastWriter source sources orderEdges into finishInto orderInto started finish runs units free begins turns cycle nothing over playOn play playLength
+unfolding sixteen least leastFrom exists numbersWhere numbersWhereFrom all latency highest finishEdges lastWriter source sources orderEdges into finishInto orderInto started finish runs units free begins turns cycle firstState allStarted playOn play playLength
 sixteen-play = refl
 
 -- ---- the tables of block B: six numbers a node, and three
@@ -68,7 +68,7 @@ pub windowsB : windowTable blockB
     ∷ 2 ∷ 2 ∷ 3 ∷ 2 ∷ 2 ∷ 6
     ∷ 3 ∷ 3 ∷ 4 ∷ 6 ∷ 6 ∷ 7
     ∷ 4 ∷ 4 ∷ 5 ∷ 7 ∷ 7 ∷ 8 ∷ []
-unfolding windowTable times joined tab tabFrom those thoseFrom inOrder largest total none any latency lowest highest finishEdges lastWriter source sources orderEdges into finishInto orderInto edgesInto reached pairs count paths contend contending finish ready earliest R rival B behind latestEX latestStart round apart new roundsFrom windows blockB
+unfolding windowTable threeTimes joined tab tabFrom numbersWhere numbersWhereFrom inOrder largest sum none any latency lowest highest finishEdges lastWriter source sources orderEdges into finishInto orderInto edgesInto reached pairs count paths contend contending finish ready earliest R rival B behind latestEX latestStart round apart new roundsFrom windows blockB
 windowsB = refl
 
 pub playB : playTable blockB (chosen blockB (3 ∷ []))
@@ -77,7 +77,7 @@ pub playB : playTable blockB (chosen blockB (3 ∷ []))
     ∷ 2 ∷ 2 ∷ 5
     ∷ 5 ∷ 5 ∷ 6
     ∷ 6 ∷ 6 ∷ 7 ∷ []
-unfolding playTable times joined least leastFrom exists those thoseFrom largest all latency chosen finishEdges lastWriter source sources orderEdges into finishInto orderInto started finish ready runs units free begins turns cycle nothing over playOn play blockB
+unfolding playTable threeTimes joined least leastFrom exists numbersWhere numbersWhereFrom largest all latency chosen finishEdges lastWriter source sources orderEdges into finishInto orderInto started finish ready runs units free begins turns cycle firstState allStarted playOn play blockB
 playB = refl
 
 -- ---- states of block A, which has nodes 0 to 4
@@ -111,6 +111,6 @@ unfolding unfit started exists least leastFrom blockA
 start-beyond = refl
 
 -- the first cycle of E starts the first IF and nothing else
-pub first-cycle : cycle blockE (chosen blockE (1 ∷ 4 ∷ 4 ∷ 12 ∷ [])) nothing ≡ state 1 (set fresh 0 0)
-unfolding those thoseFrom all latency chosen finishEdges lastWriter source sources orderEdges into finishInto orderInto started finish runs units free begins turns cycle nothing blockE
+pub first-cycle : cycle blockE (chosen blockE (1 ∷ 4 ∷ 4 ∷ 12 ∷ [])) firstState ≡ state 1 (set fresh 0 0)
+unfolding numbersWhere numbersWhereFrom all latency chosen finishEdges lastWriter source sources orderEdges into finishInto orderInto started finish runs units free begins turns cycle firstState blockE
 first-cycle = refl

@@ -1,9 +1,9 @@
 -- Latencies of nodes: where one number is at most another, so are the latencies that they give a node. Assumes nothing.
 use Prim.Native.Nat.{ℕ, _≤_, _<_}
 use native.Mathlib.Omega.{arith}
-use Rattle.seqs.proofs.Tests.{by-test}
+use Rattle.lists.proofs.Bools.{by-test}
 use Rattle.record.specs.declared.Block.{Block}
-use Rattle.record.proofs.Ranges.{Ranges}
+use Rattle.record.proofs.AcceptedRanges.{Ranges}
 use Rattle.model.specs.Nodes.{nodes, instruction, isEX, latency, lowest, highest}
 
 pub latency-mono : (x y v : ℕ) → x ≤ y → latency x v ≤ latency y v

@@ -7,11 +7,11 @@ use mathlib.Core.Logic.{_⊎_, inl, inr}
 use native.Mathlib.Omega.{arith}
 use lib.Dec.{leb, eqb}
 use borrow.Author.Tests.{leb-true, le-leb, eqb-true, eq-eqb}
-use Rattle.seqs.specs.Lists.{In, Every, pick}
-use Rattle.seqs.proofs.Tests.{and-left, and-right}
-use Rattle.seqs.proofs.Members.{in-split, in-left, in-right, in-map, map-in, _▸_, every}
+use Rattle.lists.specs.Lists.{In, Every, pick}
+use Rattle.lists.proofs.Bools.{and-left, and-right}
+use Rattle.lists.proofs.Members.{in-split, in-left, in-right, in-map, map-in, _▸_, every}
 use Rattle.record.specs.declared.Block.{Block}
-use Rattle.record.proofs.Ranges.{Ranges}
+use Rattle.record.proofs.AcceptedRanges.{Ranges}
 use Rattle.model.specs.Nodes.{EX, WB, node, stage, instruction, isEX, entry, Edges, edges, finishEdges, lastWriter, source, sources, orderEdges, into, finishInto, orderInto}
 use Rattle.model.specs.Paths.{edgesInto}
 

@@ -4,8 +4,8 @@ use mathlib.Core.Bool.{Bool, not, _&&_, _||_}
 use mathlib.Core.List.{List, [], _∷_, map}
 use lib.ListN.{length, getD, set, replicate}
 use lib.Dec.{leb, ltb, eqb}
-use Rattle.seqs.specs.Lists.{pick, exists, those, joined}
-use Rattle.seqs.specs.Sums.{largest, all}
+use Rattle.lists.specs.Lists.{pick, exists, numbersWhere, joined}
+use Rattle.lists.specs.Sums.{largest, all}
 use Rattle.record.specs.declared.Block.{Block}
 use Rattle.model.specs.Nodes.{EX, CM, nodes, node, instruction, isEX, entry, finishInto, orderInto}
 
@@ -48,7 +48,7 @@ units b k = 1
 
 -- "no EX of its kind has start ≤ t < start + latency": of kind k fewer run than it has units, which is one
 unfoldable pub free : Block → (ℕ → ℕ) → ℕ → List ℕ → ℕ → Bool
-free b lat t s k = ltb (length (those 0 (b .n) (λ j. eqb (entry b j .kind) k && runs lat t s j))) (units b k)
+free b lat t s k = ltb (length (numbersWhere 0 (b .n) (λ j. eqb (entry b j .kind) k && runs lat t s j))) (units b k)
 
 -- "each node not started starts at t if every finish-edge predecessor has start + latency at most t, every order-edge
 -- predecessor has started (this cycle counts), and, for EX, no EX of its kind .."
@@ -69,22 +69,22 @@ unfoldable pub cycle : Block → (ℕ → ℕ) → State → State
 cycle b lat p = record { t = p .t + 1; starts = turns b lat (p .t) (p .starts) (nodes b) }
 
 -- "from t = 0, nothing started"
-unfoldable pub nothing : State
-nothing = record { t = 0; starts = replicate 300 notStarted }
+unfoldable pub firstState : State
+firstState = record { t = 0; starts = replicate 300 notStarted }
 
 -- "all have started"
-unfoldable pub over : Block → State → Bool
-over b p = not (exists 0 (nodes b) (λ v. not (started (p .starts) v)))
+unfoldable pub allStarted : Block → State → Bool
+allStarted b p = not (exists 0 (nodes b) (λ v. not (started (p .starts) v)))
 
 -- the state in which all have started, or after `most` cycles if that is sooner
 unfoldable pub playOn : ℕ → Block → (ℕ → ℕ) → State → State
 playOn zero b lat p = p
-playOn (suc most) b lat p = let rest = playOn most b lat (cycle b lat p) in pick (over b p) p rest
+playOn (suc most) b lat p = let rest = playOn most b lat (cycle b lat p) in pick (allStarted b p) p rest
 
 -- "A play runs from t = 0, nothing started, until all have started": the starts then. 30,780 cycles are
 -- allowed, 513 for each of 60 instructions
 unfoldable pub play : Block → (ℕ → ℕ) → List ℕ
-play b lat = playOn 30780 b lat nothing .starts
+play b lat = playOn 30780 b lat firstState .starts
 
 -- "its length is CM(n−1)'s finish."
 unfoldable pub playLength : Block → (ℕ → ℕ) → ℕ
@@ -95,9 +95,9 @@ unfoldable pub ready : Block → (ℕ → ℕ) → List ℕ → ℕ → ℕ
 ready b lat s v = max (largest (map (finish lat s) (finishInto b v))) (largest (map (start s) (orderInto b v)))
 
 -- "ready, start, finish" of node v
-unfoldable pub times : Block → (ℕ → ℕ) → List ℕ → ℕ → List ℕ
-times b lat s v = ready b lat s v ∷ start s v ∷ finish lat s v ∷ []
+unfoldable pub threeTimes : Block → (ℕ → ℕ) → List ℕ → ℕ → List ℕ
+threeTimes b lat s v = ready b lat s v ∷ start s v ∷ finish lat s v ∷ []
 
 -- "The play table holds ready, start, finish per node, in node order."
 unfoldable pub playTable : Block → (ℕ → ℕ) → List ℕ
-playTable b lat = let s = play b lat in joined (nodes b) (times b lat s)
+playTable b lat = let s = play b lat in joined (nodes b) (threeTimes b lat s)

@@ -1,6 +1,6 @@
 pub mod Nodes
 pub mod Paths
-pub mod Registers
 pub mod Cycles
 pub mod Rounds
 pub mod Blocks
+pub mod inside

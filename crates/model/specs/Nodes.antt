@@ -4,7 +4,7 @@ use mathlib.Core.Bool.{Bool, _&&_}
 use mathlib.Core.List.{List, [], _∷_, _++_, map}
 use lib.ListN.{getD}
 use lib.Dec.{leb, eqb}
-use Rattle.seqs.specs.Lists.{pick}
+use Rattle.lists.specs.Lists.{pick}
 use Rattle.record.specs.Layout.{noEntry}
 use Rattle.record.specs.declared.Block.{Block}
 use Rattle.record.specs.declared.Entry.{Entry}

@@ -4,8 +4,8 @@ use mathlib.Core.Bool.{Bool, false, not, _&&_, _||_}
 use mathlib.Core.List.{List, [], _++_}
 use lib.ListN.{length, getD}
 use lib.Dec.{eqb}
-use Rattle.seqs.specs.Lists.{In, tab, those, inOrder}
-use Rattle.seqs.specs.Sums.{total, any}
+use Rattle.lists.specs.Lists.{In, tab, numbersWhere, inOrder}
+use Rattle.lists.specs.Sums.{sum, any}
 use Rattle.record.specs.declared.Block.{Block}
 use Rattle.model.specs.Nodes.{EX, nodes, node, entry, finishInto, orderInto}
 
@@ -36,7 +36,7 @@ pairs n p = tab n (λ i. tab n (p i))
 
 -- how many pairs i before j, j below n, there are of which p holds
 unfoldable pub count : ℕ → (ℕ → ℕ → Bool) → ℕ
-count n p = total (tab n (λ j. length (those 0 j (λ i. p i j))))
+count n p = sum (tab n (λ j. length (numbersWhere 0 j (λ i. p i j))))
 
 -- from which EX(i) a path leads to which EX(j)
 unfoldable pub paths : Block → Pairs

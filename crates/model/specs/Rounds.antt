@@ -4,12 +4,12 @@ use mathlib.Core.Bool.{Bool, not, _&&_, _||_}
 use mathlib.Core.List.{List, [], _++_, map}
 use lib.ListN.{getD}
 use lib.Dec.{leb, eqb}
-use Rattle.seqs.specs.Lists.{pick, joined, those, inOrder}
-use Rattle.seqs.specs.Sums.{largest, total, none}
+use Rattle.lists.specs.Lists.{pick, joined, numbersWhere, inOrder}
+use Rattle.lists.specs.Sums.{largest, sum, none}
 use Rattle.record.specs.declared.Block.{Block}
 use Rattle.model.specs.Nodes.{EX, CM, nodes, node, instruction, isEX, lowest, highest}
 use Rattle.model.specs.Paths.{Pairs, has, pairs, count, contending}
-use Rattle.model.specs.Cycles.{finish, ready, times}
+use Rattle.model.specs.Cycles.{finish, ready, threeTimes}
 
 -- "Earliest ready: the largest of 0, predecessors' earliest finishes (finish edges) and earliest starts (order edges).
 -- Earliest start equals it": the list of both, in node order. "earliest finish adds lo (1 off EX)."
@@ -31,13 +31,13 @@ B r his = pick (none his) r (r + largest his - 1)
 -- "With earlier ones, latest start is the smaller of B + (sum of their hi) and the larger of B and their largest latest
 -- finish; with none it is B."
 unfoldable pub behind : ℕ → List ℕ → List ℕ → ℕ
-behind p his finishes = pick (none his) p (min (p + total his) (max p (largest finishes)))
+behind p his finishes = pick (none his) p (min (p + sum his) (max p (largest finishes)))
 
 -- the latest start of EX(i), from its R
 unfoldable pub latestEX : Block → (ℕ → ℕ → Bool) → List ℕ → ℕ → ℕ → ℕ
 latestEX b rivals s i r =
-    let earlier = those 0 i (rivals i) in
-    let later = those (i + 1) (b .n) (rivals i) in
+    let earlier = numbersWhere 0 i (rivals i) in
+    let later = numbersWhere (i + 1) (b .n) (rivals i) in
     let his : List ℕ → List ℕ = map (λ j. highest b (node EX j)) in
     behind (B r (his later)) (his earlier) (map (λ j. finish (highest b) s (node EX j)) earlier)
 
@@ -105,4 +105,4 @@ unfoldable pub windowTable : Block → List ℕ
 windowTable b =
     let early = earliest b in
     let late = windows b .late in
-    joined (nodes b) (λ v. times b (lowest b) early v ++ times b (highest b) late v)
+    joined (nodes b) (λ v. threeTimes b (lowest b) early v ++ threeTimes b (highest b) late v)

@@ -18,10 +18,10 @@ use Rattle.record.proofs.Answers.{number-above, refused-not, outcome-one}
 use Rattle.model.specs.Nodes.{chosen}
 use Rattle.model.specs.Cycles.{State, cycle, unfit, playLength, playTable}
 use Rattle.play.specs.Refusals.{listTest, latencyTest, stateTest, listTests, cycleTests, playTests, lengthTests}
-use Rattle.play.specs.Promises.{stateOf, stepped, played, lasting, Cycles, Plays, Lasts}
+use Rattle.play.specs.Promises.{stateOf, stepped, played, playLengthGiven, PlaysCycle, Plays, GivesPlayLength}
 use Rattle.play.specs.declared.PlayState.{PlayState}
 use Rattle.play.specs.declared.Step.{Step}
-use Rattle.play.specs.declared.Lasting.{Lasting}
+use Rattle.play.specs.declared.PlayLength.{PlayLength}
 
 -- ---- values of the code by their parts
 abbrev playState : State → PlayState
@@ -34,7 +34,7 @@ state-one p q e = ap playState e
 abbrev stepOf : Answer → PlayState → Step
 stepOf a p = record { answer = a; state = p }
 
-abbrev lastingOf : Answer → ℕ → Lasting
+abbrev lastingOf : Answer → ℕ → PlayLength
 lastingOf a k = record { answer = a; cycles = k }
 
 -- ---- tests after others
@@ -70,16 +70,16 @@ module _ (b : Block) (l : List ℕ) where
   unfolding lengthTests blockTests headerTest entryTest
   length-fine z = both-accepted (blockTests b) (listTests b l) refl z
 
-  pub length-refused : (r : Reason) (a : Answer) → a ≡ Refused r → meaning a ≡ verdict (lengthTests b l) → Lasts b l (record { answer = a; cycles = 0 })
-  unfolding lasting
+  pub length-refused : (r : Reason) (a : Answer) → a ≡ Refused r → meaning a ≡ verdict (lengthTests b l) → GivesPlayLength b l (record { answer = a; cycles = 0 })
+  unfolding playLengthGiven
   length-refused r a e h = record { answer = h; cycles = rw (refused-out (verdict (lengthTests b l)) r a e h) refl }
 
-  pub length-done : (a : Answer) (x : ℕ) → verdict (lengthTests b l) ≡ (0, 0) → a ≡ Accepted → x ≡ playLength b (chosen b l) → Lasts b l (record { answer = a; cycles = x })
-  unfolding lasting
+  pub length-done : (a : Answer) (x : ℕ) → verdict (lengthTests b l) ≡ (0, 0) → a ≡ Accepted → x ≡ playLength b (chosen b l) → GivesPlayLength b l (record { answer = a; cycles = x })
+  unfolding playLengthGiven
   length-done a x z e f = record { answer = ap meaning e ∙ sym z; cycles = rw z f }
 
   -- asking for the length has one outcome
-  pub length-one : (x y : Lasting) → Lasts b l x → Lasts b l y → x ≡ y
+  pub length-one : (x y : PlayLength) → GivesPlayLength b l x → GivesPlayLength b l y → x ≡ y
   length-one x y p q =
       let o = outcome-one (x .answer) (y .answer) (x .cycles) (y .cycles) (p .answer) (p .cycles) (q .answer) (q .cycles) in
       ap (λ (a : Answer). lastingOf a (x .cycles)) (o .0) ∙ ap (λ (k : ℕ). lastingOf (y .answer) k) (o .1)
@@ -95,20 +95,20 @@ module _ (b : Block) (l : List ℕ) (p : PlayState) where
   unfolding lengthTests listTests blockTests headerTest entryTest listTest latencyTest
   past-lists z = ap verdict cycle-tests ∙ after-accepted (lengthTests b l) _ refl z
 
-  pub cycle-refused : (r : Reason) (a : Answer) → a ≡ Refused r → meaning a ≡ verdict (lengthTests b l) → Cycles b l p (record { answer = a; state = p })
+  pub cycle-refused : (r : Reason) (a : Answer) → a ≡ Refused r → meaning a ≡ verdict (lengthTests b l) → PlaysCycle b l p (record { answer = a; state = p })
   unfolding stepped
   cycle-refused r a e h =
       let f : meaning a ≡ verdict (cycleTests b l (stateOf p)) = refused-stays (lengthTests b l) _ r a e h ∙ ap verdict (sym cycle-tests) in
       record { answer = f; state = rw (refused-out _ r a e f) refl }
 
-  pub cycle-unfit : verdict (lengthTests b l) ≡ (0, 0) → unfit b (stateOf p) ≡ true → Cycles b l p (record { answer = Refused StateReason; state = p })
+  pub cycle-unfit : verdict (lengthTests b l) ≡ (0, 0) → unfit b (stateOf p) ≡ true → PlaysCycle b l p (record { answer = Refused StateReason; state = p })
   unfolding stateTest stepped
   cycle-unfit z h =
       let f : verdict (cycleTests b l (stateOf p)) ≡ (9, 0) = past-lists z ∙ refuse (stateTest b (stateOf p)) [] h in
       record { answer = sym f; state = rw f refl }
 
   pub cycle-done : (a : Answer) (q : PlayState) → verdict (lengthTests b l) ≡ (0, 0) → a ≡ Accepted → unfit b (stateOf p) ≡ false
-      → stateOf q ≡ cycle b (chosen b l) (stateOf p) → Cycles b l p (record { answer = a; state = q })
+      → stateOf q ≡ cycle b (chosen b l) (stateOf p) → PlaysCycle b l p (record { answer = a; state = q })
   unfolding stateTest stepped
   cycle-done a q z e h g =
       let f : verdict (cycleTests b l (stateOf p)) ≡ (0, 0) = past-lists z ∙ pass (stateTest b (stateOf p)) [] h ∙ none in
@@ -123,7 +123,7 @@ module _ (b : Block) (l : List ℕ) (p : PlayState) where
       (y .0, y .1, passed (stateTest b (stateOf p)) [] (omega arith) (x .1) .0)
 
   -- a cycle has one outcome
-  pub cycle-one : (x y : Step) → Cycles b l p x → Cycles b l p y → x ≡ y
+  pub cycle-one : (x y : Step) → PlaysCycle b l p x → PlaysCycle b l p y → x ≡ y
   cycle-one x y u v =
       let o = outcome-one (x .answer) (y .answer) (stateOf (x .state)) (stateOf (y .state)) (u .answer) (u .state) (v .answer) (v .state) in
       ap (λ (a : Answer). stepOf a (x .state)) (o .0) ∙ ap (λ (s : PlayState). stepOf (y .answer) s) (state-one (x .state) (y .state) (o .1))

@@ -3,7 +3,7 @@ use mathlib.Core.Path.{_≡_}
 use mathlib.Core.List.{List, _++_}
 use Prim.Native.Nat.{ℕ, _*_}
 use lib.ListN.{drop}
-use Rattle.seqs.specs.Lists.{pick}
+use Rattle.lists.specs.Lists.{pick}
 use Rattle.record.specs.Refusals.{meaning, verdict, accepts}
 use Rattle.record.specs.declared.Answer.{Answer}
 use Rattle.record.specs.declared.Block.{Block}
@@ -12,7 +12,7 @@ use Rattle.model.specs.Cycles.{State, cycle, playLength, playTable}
 use Rattle.play.specs.Refusals.{cycleTests, playTests, lengthTests}
 use Rattle.play.specs.declared.PlayState.{PlayState}
 use Rattle.play.specs.declared.Step.{Step}
-use Rattle.play.specs.declared.Lasting.{Lasting}
+use Rattle.play.specs.declared.PlayLength.{PlayLength}
 
 -- the state that a value of the code is
 abbrev pub stateOf : PlayState → State
@@ -27,12 +27,12 @@ unfoldable pub played : Block → List ℕ → List ℕ → List ℕ
 played b l o = pick (accepts (verdict (playTests b l o))) (playTable b (chosen b l) ++ drop (15 * b .n) o) o
 
 -- the length of a play. "any other value handed back beside a refusal is all zero"
-unfoldable pub lasting : Block → List ℕ → ℕ
-lasting b l = pick (accepts (verdict (lengthTests b l))) (playLength b (chosen b l)) 0
+unfoldable pub playLengthGiven : Block → List ℕ → ℕ
+playLengthGiven b l = pick (accepts (verdict (lengthTests b l))) (playLength b (chosen b l)) 0
 
 -- one cycle of the block b with the latencies l from the state p: the answer is the verdict, and the state is the next or
 -- the very one
-pub record Cycles (b : Block) (l : List ℕ) (p : PlayState) (r : Step) : Type 0 where
+pub record PlaysCycle (b : Block) (l : List ℕ) (p : PlayState) (r : Step) : Type 0 where
   pub answer : meaning (r .answer) ≡ verdict (cycleTests b l (stateOf p))
   pub state : stateOf (r .state) ≡ stepped b l (stateOf p)
 
@@ -43,6 +43,6 @@ pub record Plays (b : Block) (l o : List ℕ) (a : Answer) (o' : List ℕ) : Typ
   pub output : o' ≡ played b l o
 
 -- asking for the length
-pub record Lasts (b : Block) (l : List ℕ) (r : Lasting) : Type 0 where
+pub record GivesPlayLength (b : Block) (l : List ℕ) (r : PlayLength) : Type 0 where
   pub answer : meaning (r .answer) ≡ verdict (lengthTests b l)
-  pub cycles : r .cycles ≡ lasting b l
+  pub cycles : r .cycles ≡ playLengthGiven b l

@@ -4,7 +4,7 @@ use mathlib.Core.Bool.{Bool, not, _||_}
 use mathlib.Core.List.{List, [], _∷_, _++_}
 use lib.ListN.{length, getD}
 use lib.Dec.{leb, ltb, eqb}
-use Rattle.record.specs.Refusals.{Test, test, lowest, outputTest, blockTests}
+use Rattle.record.specs.Refusals.{Test, test, firstFault, outputTest, blockTests}
 use Rattle.record.specs.declared.Block.{Block}
 use Rattle.model.specs.Nodes.{entry}
 use Rattle.model.specs.Cycles.{State, unfit}
@@ -19,7 +19,7 @@ listTest b l = test 7 (not (eqb (length l) (b .n))) 0
 
 -- "8 | a latency outside its lo to hi | lowest such instruction"
 unfoldable pub latencyTest : Block → List ℕ → Test
-latencyTest b l = lowest 8 0 (b .n) (wrong b l)
+latencyTest b l = firstFault 8 0 (b .n) (wrong b l)
 
 -- "9 | play state unfit: .. | 0"
 unfoldable pub stateTest : Block → State → Test

@@ -1,12 +1,12 @@
 // The play of a block: one cycle by value, and the play table.
-mod doors;
+mod operations;
 mod nodes;
-mod quick;
-mod tables;
-mod tests;
+mod whole_play;
+mod play_table;
+mod refusals;
 
-pub use doors::play;
-pub use doors::play_length;
+pub use operations::play;
+pub use operations::play_length;
 use record::Answer;
 
 // Where a play stands: the number of the cycle to come, and for each of 300 nodes its start, or 65535 where it has not started.
@@ -22,7 +22,7 @@ pub struct Step {
 }
 
 // The length of a play, in cycles, beside the answer.
-pub struct Lasting {
+pub struct PlayLength {
     pub answer: Answer,
     pub cycles: u16,
 }

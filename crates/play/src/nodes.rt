@@ -4,18 +4,18 @@ ghost use mathlib.Core.Bool.{_&&_, not};
 ghost use Prim.Native.Nat.{ℕ, _+_, _/_, _≤_, _<_, max};
 ghost use lib.ListN.{length, getD, set};
 ghost use lib.Dec.{eqb};
-ghost use Rattle.seqs.specs.Lists.{pick};
+ghost use Rattle.lists.specs.Lists.{pick};
 ghost use Rattle.record.specs.declared.Block.{Block};
 ghost use Rattle.model.specs.Nodes.{node, nodes, chosen};
 ghost use Rattle.model.specs.Cycles.{started, turns};
-ghost use Rattle.links.specs.Unpacked.{Unpacked};
-ghost use Rattle.play.specs.Steps.{stageReady, fromWhen, ended, can};
-ghost use Rattle.play.specs.Running.{Chosen, Timed, Units};
-use links::Shape;
-use links::larger;
-use links::small;
-use links::time;
-use links::wide;
+ghost use Rattle.unpacked.specs.inside.UnpackedBlock.{Unpacked};
+ghost use Rattle.play.specs.inside.NodeTurn.{stageReady, fromWhen, ended, can};
+ghost use Rattle.play.specs.inside.PlayFacts.{Chosen, Timed, Units};
+use unpacked::Shape;
+use unpacked::larger;
+use unpacked::small;
+use unpacked::time;
+use unpacked::wide;
 
 // The ready time of stage g of instruction i.
 pub fn stage_ready(h: Shape, x: u8, y: u8, l: u8, s: &[u16], i: usize, g: usize) -> u32
@@ -23,11 +23,11 @@ pub fn stage_ready(h: Shape, x: u8, y: u8, l: u8, s: &[u16], i: usize, g: usize)
     ensures { λ r. ⌜ (r ≡ stageReady h x y l (now (s .entry)) i g) × (r ≤ 65790) ⌝ }
 {
     match g {
-        0 => links::ready_if(h, s, i),
-        1 => links::ready_id(h, s, i),
-        2 => links::ready_ex(x, y, s, i),
+        0 => unpacked::ready_if(h, s, i),
+        1 => unpacked::ready_id(h, s, i),
+        2 => unpacked::ready_ex(x, y, s, i),
         3 => wide(s[5 * i + 2]) + small(l),
-        _ => links::ready_cm(h, s, i),
+        _ => unpacked::ready_cm(h, s, i),
     }
 }
 
@@ -100,7 +100,7 @@ fn unit_ends(n: usize, kinds: &[u8], lat: &[u8], s: &[u16]) -> [u32; 4]
 {
     let mut ends = [0u32; 4];
     for i in 0..n {
-        let k = links::index(kinds[i]);
+        let k = unpacked::index(kinds[i]);
         ends[k] = later_end(s[5 * i + 2], lat[i], ends[k]);
     }
     ends
@@ -124,7 +124,7 @@ pub fn cycle_into(h: Shape, kinds: &[u8], lat: &[u8], s1: &[u8], s2: &[u8], t: u
     let end = 5 * h.n;
     for v in 0..end {
         let i = instruction_of(v);
-        let k = links::index(kinds[i]);
+        let k = unpacked::index(kinds[i]);
         node_turn(h, s1[i], s2[i], lat[i], k, t, i, v % 5, s, &mut ends);
     }
 }

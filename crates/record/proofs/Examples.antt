@@ -2,8 +2,8 @@
 use mathlib.Core.Path.{_≡_, refl}
 use mathlib.Core.List.{_∷_}
 use lib.ListN.{replicate}
-use Rattle.seqs.specs.Lists.{least, leastFrom, joined}
-use Rattle.seqs.specs.Bytes.{little, bytes}
+use Rattle.lists.specs.Lists.{least, leastFrom, joined}
+use Rattle.lists.specs.Bytes.{little, bytes}
 use Rattle.record.specs.Check.{checkOf, sumA, sumB}
 use Rattle.record.specs.Rules.{lows, highs, outside, register, kind, used, unused, rule, broken}
 use Rattle.record.specs.Layout.{noEntry, headBytes, entryBytes, entriesBytes, body, encoded}

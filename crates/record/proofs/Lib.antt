@@ -1,9 +1,9 @@
-pub mod Checks
-pub mod Entries
+pub mod CheckByWord
+pub mod EntryRules
 pub mod Verdicts
-pub mod Encoded
+pub mod RecordBytes
 pub mod Answers
-pub mod Writes
-pub mod Ranges
-pub mod Trips
+pub mod OutputVerdicts
+pub mod AcceptedRanges
+pub mod RoundTrips
 pub mod Examples

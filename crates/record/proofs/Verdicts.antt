@@ -7,13 +7,13 @@ use native.Mathlib.Omega.{arith}
 use lib.ListN.{length}
 use lib.Dec.{ltb}
 use borrow.Author.Tests.{lt-ltb, le-ltb, eq-eqb, ne-eqb, ltb-true, ltb-false, eqb-true, not-false}
-use Rattle.seqs.specs.Lists.{least}
-use Rattle.seqs.specs.Bytes.{little}
-use Rattle.seqs.proofs.Tests.{by-test, and-left, and-right}
-use Rattle.seqs.proofs.Least.{least-front, least-front-none, least-back}
+use Rattle.lists.specs.Lists.{least}
+use Rattle.lists.specs.Bytes.{little}
+use Rattle.lists.proofs.Bools.{by-test, and-left, and-right}
+use Rattle.lists.proofs.Least.{least-front, least-front-none, least-back}
 use Rattle.record.specs.Check.{checkOf}
 use Rattle.record.specs.Rules.{outside, broken}
-use Rattle.record.specs.Refusals.{Test, lowest, verdict, lengthTest, checkTest, lettersTest, headerTest, entryTest, readTests, readVerdict}
+use Rattle.record.specs.Refusals.{Test, firstFault, verdict, lengthTest, checkTest, lettersTest, headerTest, entryTest, readTests, readVerdict}
 
 -- ---- a list of tests
 pub none : verdict [] ≡ (0, 0)
@@ -41,14 +41,14 @@ module _ (t : Test) (ts : List Test) where
 
 -- a test whose place is the lowest fault
 module _ (k a b : ℕ) (p : ℕ → Bool) (ts : List Test) where
-  pub refuse-lowest : (h : ℕ) → h ≡ least a b p → h < b → verdict (lowest k a b p ∷ ts) ≡ (k, h)
-  refuse-lowest h e l = rw e (refuse (lowest k a b p) ts (lt-ltb (least a b p) b (omega arith)))
+  pub refuse-firstFault : (h : ℕ) → h ≡ least a b p → h < b → verdict (firstFault k a b p ∷ ts) ≡ (k, h)
+  refuse-firstFault h e l = rw e (refuse (firstFault k a b p) ts (lt-ltb (least a b p) b (omega arith)))
 
-  pub pass-lowest : b ≤ least a b p → verdict (lowest k a b p ∷ ts) ≡ verdict ts
-  pass-lowest l = pass (lowest k a b p) ts (le-ltb (least a b p) b l)
+  pub pass-firstFault : b ≤ least a b p → verdict (firstFault k a b p ∷ ts) ≡ verdict ts
+  pass-firstFault l = pass (firstFault k a b p) ts (le-ltb (least a b p) b l)
 
-  pub passed-lowest : 0 < k → verdict (lowest k a b p ∷ ts) ≡ (0, 0) → (b ≤ least a b p) × (verdict ts ≡ (0, 0))
-  passed-lowest h e = let q = passed (lowest k a b p) ts h e in (ltb-false (least a b p) b (q .0), q .1)
+  pub passed-firstFault : 0 < k → verdict (firstFault k a b p ∷ ts) ≡ (0, 0) → (b ≤ least a b p) × (verdict ts ≡ (0, 0))
+  passed-firstFault h e = let q = passed (firstFault k a b p) ts h e in (ltb-false (least a b p) b (q .0), q .1)
 
 -- tests after others, where those are numbered from 1
 abbrev pub numbered : List Test → Bool
@@ -113,21 +113,21 @@ module _ (s : List ℕ) (l : length s ≡ 512) (k : checkOf s ≡ little 4 s 508
 
   pub read-header : 4 ≤ h → h < 28 → readVerdict s ≡ (4, h)
   unfolding readTests headerTest
-  read-header a b = past-letters a _ ∙ refuse-lowest 4 4 28 (outside s) _ h (sym (same a)) b
+  read-header a b = past-letters a _ ∙ refuse-firstFault 4 4 28 (outside s) _ h (sym (same a)) b
 
   past-header : 28 ≤ h → (ts : List Test) → verdict (lengthTest s ∷ checkTest s ∷ lettersTest s ∷ headerTest s ∷ ts) ≡ verdict ts
   unfolding headerTest
   past-header a ts =
       let q : 28 ≤ least 4 28 (outside s) = omega (arith, same (omega arith)) in
-      past-letters (omega arith) _ ∙ pass-lowest 4 4 28 (outside s) ts q
+      past-letters (omega arith) _ ∙ pass-firstFault 4 4 28 (outside s) ts q
 
   pub read-entry : 28 ≤ h → (i : ℕ) → i ≡ least 0 60 (broken s) → i < 60 → readVerdict s ≡ (5, i)
   unfolding readTests entryTest
-  read-entry a i f b = past-header a _ ∙ refuse-lowest 5 0 60 (broken s) [] i f b
+  read-entry a i f b = past-header a _ ∙ refuse-firstFault 5 0 60 (broken s) [] i f b
 
   pub read-fine : 28 ≤ h → 60 ≤ least 0 60 (broken s) → readVerdict s ≡ (0, 0)
   unfolding readTests entryTest
-  read-fine a b = past-header a _ ∙ pass-lowest 5 0 60 (broken s) [] b ∙ none
+  read-fine a b = past-header a _ ∙ pass-firstFault 5 0 60 (broken s) [] b ∙ none
 
 -- what an accepted byte string is
 pub record Fine (s : List ℕ) : Type 0 where
@@ -143,8 +143,8 @@ fine s z =
     let a = passed (lengthTest s) _ (omega arith) z in
     let b = passed (checkTest s) _ (omega arith) (a .1) in
     let d = passed (lettersTest s) _ (omega arith) (b .1) in
-    let f = passed-lowest 4 4 28 (outside s) _ (omega arith) (d .1) in
-    let g = passed-lowest 5 0 60 (broken s) _ (omega arith) (f .1) in
+    let f = passed-firstFault 4 4 28 (outside s) _ (omega arith) (d .1) in
+    let g = passed-firstFault 5 0 60 (broken s) _ (omega arith) (f .1) in
     record {
       length = eqb-true _ _ (not-false _ (a .0));
       check = eqb-true _ _ (not-false _ (b .0));

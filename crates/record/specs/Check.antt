@@ -1,7 +1,7 @@
 -- The check of a record.
 use Prim.Native.Nat.{ℕ, zero, suc, _+_, _*_, _%_}
 use mathlib.Core.List.{List}
-use Rattle.seqs.specs.Bytes.{little}
+use Rattle.lists.specs.Bytes.{little}
 
 -- "Over the 254 little-endian 16-bit words of bytes 0–507": word k
 abbrev pub word : List ℕ → ℕ → ℕ

@@ -2,8 +2,8 @@
 use Prim.Native.Nat.{ℕ}
 use mathlib.Core.List.{List, [], _∷_, _++_}
 use lib.ListN.{getD, replicate}
-use Rattle.seqs.specs.Lists.{tab, joined}
-use Rattle.seqs.specs.Bytes.{little, bytes}
+use Rattle.lists.specs.Lists.{tab, joined}
+use Rattle.lists.specs.Bytes.{little, bytes}
 use Rattle.record.specs.Check.{checkOf}
 use Rattle.record.specs.Rules.{entryByte}
 use Rattle.record.specs.declared.Block.{Block}

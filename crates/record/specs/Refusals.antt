@@ -4,8 +4,8 @@ use mathlib.Core.Bool.{Bool, not}
 use mathlib.Core.List.{List, [], _∷_, _++_}
 use lib.ListN.{length}
 use lib.Dec.{ltb, eqb}
-use Rattle.seqs.specs.Lists.{pick, least}
-use Rattle.seqs.specs.Bytes.{little}
+use Rattle.lists.specs.Lists.{pick, least}
+use Rattle.lists.specs.Bytes.{little}
 use Rattle.record.specs.Check.{checkOf}
 use Rattle.record.specs.Rules.{outside, broken}
 use Rattle.record.specs.Layout.{encoded, decoded, noBlock}
@@ -55,8 +55,8 @@ abbrev pub test : ℕ → Bool → ℕ → Test
 test k g p = record { number = k; given = g; place = p }
 
 -- a line whose place is the lowest from a on and below b at which there is a fault
-abbrev pub lowest : ℕ → ℕ → ℕ → (ℕ → Bool) → Test
-lowest k a b fault = test k (ltb (least a b fault) b) (least a b fault)
+abbrev pub firstFault : ℕ → ℕ → ℕ → (ℕ → Bool) → Test
+firstFault k a b fault = test k (ltb (least a b fault) b) (least a b fault)
 
 -- number and place of the first refusal that is given; 0 and 0 where none is
 unfoldable pub verdict : List Test → ℕ × ℕ
@@ -77,11 +77,11 @@ lettersTest s = test 3 (ltb (least 0 4 (outside s)) 4) 0
 
 -- "4 | header byte 4–27 outside its range | lowest such byte"
 unfoldable pub headerTest : List ℕ → Test
-headerTest s = lowest 4 4 28 (outside s)
+headerTest s = firstFault 4 4 28 (outside s)
 
 -- "5 | an entry breaks its rule | lowest such entry, 0–59"
 unfoldable pub entryTest : List ℕ → Test
-entryTest s = lowest 5 0 60 (broken s)
+entryTest s = firstFault 5 0 60 (broken s)
 
 -- "6 | output length wrong | 0"
 unfoldable pub outputTest : Bool → Test

@@ -4,7 +4,7 @@ use mathlib.Core.Bool.{Bool, _&&_, _||_, not}
 use mathlib.Core.List.{List, [], _∷_}
 use lib.ListN.{getD}
 use lib.Dec.{leb, ltb, eqb}
-use Rattle.seqs.specs.Lists.{pick}
+use Rattle.lists.specs.Lists.{pick}
 
 -- "Each header byte has a lowest and a highest allowed value": the lowest of bytes 0 to 27, the letters BLK1 first
 unfoldable pub lows : List ℕ

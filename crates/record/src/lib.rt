@@ -2,13 +2,13 @@
 mod reader;
 mod reasons;
 mod rules;
-mod sums;
+mod check;
 mod writer;
 
 pub use reader::read;
 pub use reasons::number_of;
 pub use reasons::place_of;
-pub use sums::seal;
+pub use check::seal;
 pub use writer::block_answer;
 pub use writer::put_head;
 pub use writer::write;

@@ -3,7 +3,7 @@ ghost use mathlib.Core.Path.{_≡_};
 ghost use mathlib.Core.Bool.{not};
 ghost use Prim.Native.Nat.{_<_};
 ghost use lib.ListN.{length};
-ghost use Rattle.seqs.specs.Lists.{tab, least};
+ghost use Rattle.lists.specs.Lists.{tab, least};
 ghost use Rattle.record.specs.Rules.{broken};
 ghost use Rattle.record.specs.Layout.{entryAt, decoded, noEntry, noBlock};
 ghost use Rattle.record.specs.Promises.{Reads};
@@ -14,8 +14,8 @@ use crate::Reading;
 use crate::Reason;
 use crate::rules::entry_ok;
 use crate::rules::header_fault;
-use crate::sums::check_of;
-use crate::sums::four_at;
+use crate::check::check_of;
+use crate::check::four_at;
 
 // Entry i of a record.
 fn entry_at(s: &[u8], i: usize) -> Entry

@@ -2,7 +2,7 @@
 ghost use mathlib.Core.Path.{_≡_};
 ghost use Prim.Native.Nat.{_≤_};
 ghost use lib.ListN.{length};
-ghost use Rattle.seqs.specs.Lists.{least};
+ghost use Rattle.lists.specs.Lists.{least};
 ghost use Rattle.record.specs.Rules.{outside, register, kind, used, unused, rule};
 ghost use Rattle.record.specs.Layout.{byteOf};
 use crate::Entry;

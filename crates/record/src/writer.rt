@@ -3,7 +3,7 @@ ghost use mathlib.Core.Path.{_≡_};
 ghost use mathlib.Core.List.{_++_};
 ghost use Prim.Native.Nat.{_+_, _≤_};
 ghost use lib.ListN.{length, drop};
-ghost use Rattle.seqs.specs.Lists.{least, put};
+ghost use Rattle.lists.specs.Lists.{least, put};
 ghost use Rattle.record.specs.Rules.{broken};
 ghost use Rattle.record.specs.Layout.{headBytes, entryBytes, entriesBytes, encoded};
 ghost use Rattle.record.specs.Refusals.{meaning, blockVerdict};
@@ -14,7 +14,7 @@ use crate::Entry;
 use crate::Reason;
 use crate::rules::entry_ok;
 use crate::rules::header_fault;
-use crate::sums::seal;
+use crate::check::seal;
 
 fn head_bytes(b: Block) -> [u8; 28]
     ensures { λ r. ⌜ r ≡ headBytes b ⌝ }

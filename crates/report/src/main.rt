@@ -26,7 +26,7 @@ fn piece_on(piece: u32) -> bool {
     let mut bytes = io::large_buffer();
     let got = io::read_full(STDIN_FILENO, &mut bytes);
     let mut text = room();
-    let n = lines::lines_into(&bytes[..got], piece, &mut text);
+    let n = report_lines::lines_into(&bytes[..got], piece, &mut text);
     if !io::write_all(STDOUT_FILENO, &text[..n]) {
         complain(b"report: the output broke off\n");
         return false;
@@ -39,7 +39,7 @@ fn piece_on(piece: u32) -> bool {
 }
 
 fn main() {
-    let head = lines::header();
+    let head = report_lines::header();
     io::write_all(STDOUT_FILENO, &head);
     for piece in 0..u32::MAX {
         if !piece_on(piece) {

@@ -4,14 +4,14 @@ ghost use mathlib.Core.Bool.{false, not, _&&_, _||_};
 ghost use Prim.Native.Nat.{ℕ, _+_, _-_, _*_, _≤_, _<_};
 ghost use lib.ListN.{length, getD, take};
 ghost use lib.Dec.{eqb};
-ghost use Rattle.seqs.specs.Lists.{those};
+ghost use Rattle.lists.specs.Lists.{numbersWhere};
 ghost use Rattle.record.specs.declared.Block.{Block};
 ghost use Rattle.model.specs.Nodes.{entry};
 ghost use Rattle.model.specs.Paths.{has, contending};
-ghost use Rattle.links.specs.Unpacked.{Sources, Unpacked};
-ghost use Rattle.rounds.specs.Rows.{Rows, Chained};
+ghost use Rattle.unpacked.specs.inside.UnpackedBlock.{Sources, Unpacked};
+ghost use Rattle.rounds.specs.inside.PairRows.{Rows, ChainRows};
 use crate::rivals::mark;
-use links::Shape;
+use unpacked::Shape;
 
 // Row j + 1 of the table of chains: those to x and those to y, and x and y. Column i + 1 is for instruction i, row and column 0 for none.
 fn chain_row(x: usize, y: usize, j: usize, a: &mut [bool])
@@ -33,7 +33,7 @@ fn chain_row(x: usize, y: usize, j: usize, a: &mut [bool])
 fn chains_into(n: usize, s1: &[u8], s2: &[u8], a: &mut [bool])
     requires { ⌜ (n ≤ 60) × (length (now s1) ≡ 60) × (length (now s2) ≡ 60) × (length (now a) ≡ 3904) ⌝ }
     requires { ⌜ ((j : ℕ) → j < n → getD (now s1) j 0 ≤ j) × ((j : ℕ) → j < n → getD (now s2) j 0 ≤ j) × ((k : ℕ) → k < 64 → getD (now a) k false ≡ false) ⌝ }
-    ensures { λ _. ⌜ ((b : Block) → b .n ≡ n → Sources b (now (s1 .entry)) (now (s2 .entry)) → Chained b n (now (a .exit))) ⌝ }
+    ensures { λ _. ⌜ ((b : Block) → b .n ≡ n → Sources b (now (s1 .entry)) (now (s2 .entry)) → ChainRows b n (now (a .exit))) ⌝ }
 {
     for j in 0..n {
         let x = s1[j] as usize;
@@ -45,7 +45,7 @@ fn chains_into(n: usize, s1: &[u8], s2: &[u8], a: &mut [bool])
 // The instructions of j's kind that stand less than w before j and from which no chain leads to it. The result is how many.
 fn contenders_of(w: usize, kinds: &[u8], a: &[bool], j: usize, row: &mut [u8]) -> usize
     requires { ⌜ (j < 60) × (w ≤ 60) × (length (now kinds) ≡ 60) × (length (now a) ≡ 3904) × (length (now row) ≡ 60) × ((k : ℕ) → getD (now row) k 0 < 60) ⌝ }
-    ensures { λ r. ⌜ (r ≤ 60) × (take r (now (row .exit)) ≡ those (j + 1 - w) j (λ i. eqb (getD (now (kinds .entry)) i 0) (getD (now (kinds .entry)) j 0) && not (getD (now (a .entry)) (64 * (j + 1) + (i + 1)) false))) × ((k : ℕ) → getD (now (row .exit)) k 0 < 60) ⌝ }
+    ensures { λ r. ⌜ (r ≤ 60) × (take r (now (row .exit)) ≡ numbersWhere (j + 1 - w) j (λ i. eqb (getD (now (kinds .entry)) i 0) (getD (now (kinds .entry)) j 0) && not (getD (now (a .entry)) (64 * (j + 1) + (i + 1)) false))) × ((k : ℕ) → getD (now (row .exit)) k 0 < 60) ⌝ }
 {
     let kind = kinds[j];
     let at = 64 * (j + 1) + 1;

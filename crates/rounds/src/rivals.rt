@@ -6,11 +6,11 @@ ghost use mathlib.Core.List.{map};
 ghost use Prim.Native.Nat.{ℕ, _+_, _*_, _≤_, _<_, max};
 ghost use lib.ListN.{length, getD, take};
 ghost use lib.Dec.{eqb};
-ghost use Rattle.seqs.specs.Lists.{pick, those, least, kept};
-ghost use Rattle.seqs.specs.Sums.{largest, total, any};
-ghost use Rattle.rounds.specs.Rows.{row, Rows, apartEX};
-use crate::lines::finish_ex;
-use links::index;
+ghost use Rattle.lists.specs.Lists.{pick, numbersWhere, least, kept};
+ghost use Rattle.lists.specs.Sums.{largest, sum, any};
+ghost use Rattle.rounds.specs.inside.PairRows.{row, Rows, apartEX};
+use crate::times::finish_ex;
+use unpacked::index;
 
 fn larger_byte(a: u8, b: u8) -> u8
     ensures { λ r. ⌜ r ≡ max a b ⌝ }
@@ -39,7 +39,7 @@ fn later_row(x: u8, row: &[u8], most: &mut [u8])
 pub fn later_of(n: usize, his: &[u8], list: &[u8], count: &[usize]) -> [u8; 60]
     requires { ⌜ (n ≤ 60) × (length (now his) ≡ 60) × (length (now list) ≡ 3600) × (length (now count) ≡ 60) ⌝ }
     requires { ⌜ ((j : ℕ) → getD (now count) j 0 ≤ 60) × ((k : ℕ) → getD (now list) k 0 < 60) ⌝ }
-    ensures { λ r. ⌜ ((p : ℕ → ℕ → Bool) → Rows n p (now (list .entry)) (now (count .entry)) → (i : ℕ) → i < n → getD r i 0 ≡ largest (map (λ j. getD (now (his .entry)) j 0) (those (i + 1) n (λ j. p j i)))) ⌝ }
+    ensures { λ r. ⌜ ((p : ℕ → ℕ → Bool) → Rows n p (now (list .entry)) (now (count .entry)) → (i : ℕ) → i < n → getD r i 0 ≡ largest (map (λ j. getD (now (his .entry)) j 0) (numbersWhere (i + 1) n (λ j. p j i)))) ⌝ }
 {
     let mut most = [0u8; 60];
     for j in 0..n {
@@ -57,7 +57,7 @@ fn apart_at(his: &[u8], early: &[u16], late: &[u16], i: usize, j: usize) -> bool
 {
     let x = finish_ex(his, late, i);
     let y = finish_ex(his, late, j);
-    (x <= links::wide(early[5 * j + 2])) | (y <= links::wide(early[5 * i + 2]))
+    (x <= unpacked::wide(early[5 * j + 2])) | (y <= unpacked::wide(early[5 * i + 2]))
 }
 
 // The first instruction whose row has one that is apart from it, or n.
@@ -133,7 +133,7 @@ pub fn keep_rows(
 // How many pairs the rows have.
 pub fn pairs_of(n: usize, count: &[usize]) -> usize
     requires { ⌜ (n ≤ 60) × (length (now count) ≡ 60) × ((j : ℕ) → getD (now count) j 0 ≤ 60) ⌝ }
-    ensures { λ r. ⌜ (r ≡ total (take n (now (count .entry)))) × (r ≤ 3600) ⌝ }
+    ensures { λ r. ⌜ (r ≡ sum (take n (now (count .entry)))) × (r ≤ 3600) ⌝ }
 {
     let mut sum = 0;
     for j in 0..n {

@@ -1,9 +1,9 @@
-pub mod Sum
+pub mod Counting
 pub mod Net
-pub mod Step
-pub mod Sound
-pub mod Graph
-pub mod Turns
-pub mod Cycle
-pub mod Schedule
-pub mod Ends
+pub mod ScheduleStep
+pub mod RoundsBound
+pub mod BlockNet
+pub mod CycleTurns
+pub mod CycleStep
+pub mod PlaySchedule
+pub mod PlayEnds

@@ -5,7 +5,7 @@ use mathlib.Core.Path.{_≡_, refl}
 use mathlib.Core.Bool.{Bool, true, false, not, _&&_}
 use native.Mathlib.Omega.{arith}
 use lib.Dec.{T, leb, ltb, eqb, leb→le, le→leb, ltb→lt, lt→ltb, eqb→eq, eqb-refl}
-use Rattle.schedules.proofs.Sum.{wt, wt-on, count}
+use Rattle.schedules.proofs.Counting.{wt, wt-on, count}
 
 -- the nodes are those below N. Edges lead up, none that leaves an EX is an order edge, each lowest latency is 1 at least,
 -- and each kind has a unit

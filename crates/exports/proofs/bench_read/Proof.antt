@@ -2,7 +2,7 @@
 use mathlib.Core.Path.{_≡_, refl, sym, ap}
 use Prim.Native.Nat.{_≤_}
 use lib.ListN.{length, List·getD-eq-default}
-use Rattle.seqs.proofs.Tables.{length-mapped}
+use Rattle.lists.proofs.TableByIndex.{length-mapped}
 use Rattle.record.specs.Layout.{noEntry}
 use Rattle.record.specs.declared.Entry.{Entry}
 use borrow.Author.Needs.{needs}

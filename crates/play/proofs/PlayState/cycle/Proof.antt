@@ -1,7 +1,7 @@
 -- `play::PlayState::cycle` meets its contract: each way out is the first test that failed, or none did. Assumes nothing.
 use mathlib.Core.Path.{refl, sym, _∙_}
 use Rattle.play.proofs.Outcomes.{accepted-so, length-fine, cycle-refused, cycle-unfit, cycle-done}
-use Rattle.links.proofs.Accepted.{few}
+use Rattle.unpacked.proofs.BlockColumns.{few}
 use borrow.Author.Needs.{needs}
 use Rattle.play.proofs.PlayState.cycle.Statement.{statement}
 use Rattle.play.proofs.PlayState.cycle.Tie as tie

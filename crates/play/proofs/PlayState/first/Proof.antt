@@ -1,11 +1,11 @@
 -- `play::PlayState::first` meets its contract. Assumes nothing.
 use mathlib.Core.Path.{refl}
-use Rattle.model.specs.Cycles.{nothing}
+use Rattle.model.specs.Cycles.{firstState}
 use Rattle.play.proofs.PlayState.first.Statement.{statement}
 use Rattle.play.proofs.PlayState.first.Tie as tie
 
 returns : tie.Need-returns
-unfolding nothing
+unfolding firstState
 returns c = refl
 
 pub first-spec : {M : Type 1} → statement M

@@ -5,9 +5,9 @@ use native.Mathlib.Omega.{arith}
 use lib.ListN.{length}
 use Rattle.record.specs.declared.Block.{Block}
 use Rattle.model.specs.Nodes.{chosen}
-use Rattle.links.specs.Unpacked.{Unpacked}
-use Rattle.play.specs.Running.{Chosen, Timed}
-use Rattle.play.proofs.Turned.{Passed, passed-none, passed-more, passed-all}
+use Rattle.unpacked.specs.inside.UnpackedBlock.{Unpacked}
+use Rattle.play.specs.inside.PlayFacts.{Chosen, Timed}
+use Rattle.play.proofs.CycleByNode.{Passed, passed-none, passed-more, passed-all}
 use borrow.Author.Needs.{needs}
 use Rattle.play.proofs.nodes.cycle_into.Statement.{statement}
 use Rattle.play.proofs.nodes.cycle_into.Tie as tie

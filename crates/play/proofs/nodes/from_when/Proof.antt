@@ -1,5 +1,5 @@
 -- `play::nodes::from_when` meets its contract. Assumes nothing.
-use Rattle.play.specs.Steps.{fromWhen}
+use Rattle.play.specs.inside.NodeTurn.{fromWhen}
 use borrow.Author.Tests.{eq-eqb, ne-eqb}
 use borrow.Author.Needs.{needs}
 use Rattle.play.proofs.nodes.from_when.Statement.{statement}

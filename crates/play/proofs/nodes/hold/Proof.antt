@@ -1,7 +1,7 @@
 -- `play::nodes::hold` meets its contract. Assumes nothing.
 use mathlib.Core.Path.{refl}
 use borrow.Author.Tests.{eq-eqb, ne-eqb}
-use Rattle.play.specs.Steps.{ended}
+use Rattle.play.specs.inside.NodeTurn.{ended}
 use borrow.Author.Needs.{needs}
 use Rattle.play.proofs.nodes.hold.Statement.{statement}
 use Rattle.play.proofs.nodes.hold.Tie as tie

@@ -2,7 +2,7 @@
 use mathlib.Core.Path.{_≡_, refl}
 use native.Mathlib.Omega.{arith}
 use lib.ListN.{getD}
-use Rattle.play.proofs.Turned.{starts-not, starts-later, starts-now}
+use Rattle.play.proofs.CycleByNode.{starts-not, starts-later, starts-now}
 use borrow.Author.Needs.{needs}
 use Rattle.play.proofs.nodes.node_turn.Statement.{statement}
 use Rattle.play.proofs.nodes.node_turn.Tie as tie

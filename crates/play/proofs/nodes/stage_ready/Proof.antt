@@ -2,8 +2,8 @@
 use mathlib.Core.Path.{_≡_}
 use native.Mathlib.Omega.{arith}
 use borrow.Author.Tests.{ne-eqb}
-use Rattle.links.specs.Stages.{readyWB}
-use Rattle.play.specs.Steps.{stageReady}
+use Rattle.unpacked.specs.inside.ReadyByStage.{readyWB}
+use Rattle.play.specs.inside.NodeTurn.{stageReady}
 use borrow.Author.Needs.{needs}
 use Rattle.play.proofs.nodes.stage_ready.Statement.{statement}
 use Rattle.play.proofs.nodes.stage_ready.Tie as tie

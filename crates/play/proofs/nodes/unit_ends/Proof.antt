@@ -5,8 +5,8 @@ use native.Mathlib.Omega.{arith}
 use lib.ListN.{length, length-set}
 use Rattle.record.specs.declared.Block.{Block}
 use Rattle.model.specs.Nodes.{chosen}
-use Rattle.play.specs.Running.{Chosen, Timed}
-use Rattle.play.proofs.Ends.{Before, before-none, before-more, before-all}
+use Rattle.play.specs.inside.PlayFacts.{Chosen, Timed}
+use Rattle.play.proofs.UnitsFree.{Before, before-none, before-more, before-all}
 use borrow.Author.Needs.{needs}
 use Rattle.play.proofs.nodes.unit_ends.Statement.{statement}
 use Rattle.play.proofs.nodes.unit_ends.Tie as tie

@@ -3,7 +3,7 @@ use mathlib.Core.Path.{_≡_}
 use lib.ListN.{getD}
 use Rattle.record.specs.Rules.{rule}
 use Rattle.record.specs.Layout.{entryAt, byteOf}
-use Rattle.record.proofs.Entries.{broken-is}
+use Rattle.record.proofs.EntryRules.{broken-is}
 use borrow.Author.Needs.{needs}
 use Rattle.record.proofs.reader.bytes_ok.Statement.{statement}
 use Rattle.record.proofs.reader.bytes_ok.Tie as tie

@@ -5,7 +5,7 @@ use native.Mathlib.Omega.{arith}
 use lib.ListN.{length, getD, length-set}
 use borrow.Author.Count.{below-none}
 use Rattle.record.specs.Layout.{entryAt, noEntry}
-use Rattle.seqs.proofs.Tables.{is-tab, store-more}
+use Rattle.lists.proofs.TableByIndex.{is-tab, store-more}
 use borrow.Author.Needs.{needs}
 use Rattle.record.proofs.reader.entries_of.Statement.{statement}
 use Rattle.record.proofs.reader.entries_of.Tie as tie

@@ -5,7 +5,7 @@ use Prim.Native.Nat.{ℕ, _≤_, _<_, _-_}
 use native.Mathlib.Omega.{arith}
 use borrow.Author.Count.{below-none, below-more}
 use Rattle.record.specs.Rules.{lows, highs, outside}
-use Rattle.seqs.proofs.Least.{least-here, least-none}
+use Rattle.lists.proofs.Least.{least-here, least-none}
 use borrow.Author.Needs.{needs}
 use Rattle.record.proofs.rules.header_fault.Statement.{statement}
 use Rattle.record.proofs.rules.header_fault.Tie as tie

@@ -6,8 +6,8 @@ use native.Mathlib.Omega.{arith}
 use borrow.Author.Count.{below-none, below-more}
 use Rattle.record.specs.Rules.{broken}
 use Rattle.record.specs.Layout.{encoded}
-use Rattle.seqs.proofs.Least.{least-here, least-none}
-use Rattle.record.proofs.Encoded.{broken-value}
+use Rattle.lists.proofs.Least.{least-here, least-none}
+use Rattle.record.proofs.RecordBytes.{broken-value}
 use borrow.Author.Needs.{needs}
 use Rattle.record.proofs.writer.block_entry_fault.Statement.{statement}
 use Rattle.record.proofs.writer.block_entry_fault.Tie as tie

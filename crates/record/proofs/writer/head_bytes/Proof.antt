@@ -1,6 +1,6 @@
 -- `record::writer::head_bytes` meets its contract. Assumes nothing.
 use mathlib.Core.Path.{refl}
-use Rattle.seqs.specs.Bytes.{bytes}
+use Rattle.lists.specs.Bytes.{bytes}
 use Rattle.record.specs.Layout.{headBytes}
 use borrow.Author.Needs.{needs}
 use Rattle.record.proofs.writer.head_bytes.Statement.{statement}

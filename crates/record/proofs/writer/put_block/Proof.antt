@@ -1,7 +1,7 @@
 -- `record::writer::put_block` meets its contract. Assumes nothing.
 use mathlib.Core.Path.{_∙_}
-use Rattle.record.proofs.Encoded.{length-head}
-use Rattle.record.proofs.Writes.{put-body, put-check}
+use Rattle.record.proofs.RecordBytes.{length-head}
+use Rattle.record.proofs.OutputVerdicts.{put-body, put-check}
 use borrow.Author.Needs.{needs}
 use Rattle.record.proofs.writer.put_block.Statement.{statement}
 use Rattle.record.proofs.writer.put_block.Tie as tie

@@ -2,7 +2,7 @@
 use mathlib.Core.Path.{_≡_, _∙_}
 use Prim.Native.Nat.{_≤_, _-_}
 use lib.ListN.{length}
-use Rattle.record.proofs.Writes.{entriesIn, entries-none, entries-more, entries-all}
+use Rattle.record.proofs.OutputVerdicts.{entriesIn, entries-none, entries-more, entries-all}
 use borrow.Author.Needs.{needs}
 use Rattle.record.proofs.writer.put_entries.Statement.{statement}
 use Rattle.record.proofs.writer.put_entries.Tie as tie

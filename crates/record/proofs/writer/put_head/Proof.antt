@@ -4,7 +4,7 @@ use mathlib.Core.List.{_++_}
 use Prim.Native.Nat.{_≤_, _-_}
 use lib.ListN.{length, take, drop, length-set}
 use lib.Seq.{take-all}
-use Rattle.seqs.proofs.Places.{copy-more}
+use Rattle.lists.proofs.JoinedPieces.{copy-more}
 use borrow.Author.Needs.{needs}
 use Rattle.record.proofs.writer.put_head.Statement.{statement}
 use Rattle.record.proofs.writer.put_head.Tie as tie

@@ -3,9 +3,9 @@ use mathlib.Core.Path.{_≡_, sym, _∙_}
 use native.Mathlib.Omega.{arith}
 use Rattle.record.specs.Rules.{outside}
 use Rattle.record.specs.Layout.{encoded}
-use Rattle.seqs.specs.Lists.{least}
-use Rattle.record.proofs.Encoded.{length-head}
-use Rattle.record.proofs.Writes.{head-walk, block-header, block-entry, block-none}
+use Rattle.lists.specs.Lists.{least}
+use Rattle.record.proofs.RecordBytes.{length-head}
+use Rattle.record.proofs.OutputVerdicts.{head-walk, block-header, block-entry, block-none}
 use borrow.Author.Needs.{needs}
 use Rattle.record.proofs.writer.tested.Statement.{statement}
 use Rattle.record.proofs.writer.tested.Tie as tie

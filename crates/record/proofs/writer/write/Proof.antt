@@ -1,7 +1,7 @@
 -- `record::writer::write` meets its contract. Assumes nothing.
 use mathlib.Core.Path.{ap, sym, _∙_}
 use Rattle.record.specs.Refusals.{meaning}
-use Rattle.record.proofs.Writes.{write-refused, write-output, write-done}
+use Rattle.record.proofs.OutputVerdicts.{write-refused, write-output, write-done}
 use borrow.Author.Needs.{needs}
 use Rattle.record.proofs.writer.write.Statement.{statement}
 use Rattle.record.proofs.writer.write.Tie as tie

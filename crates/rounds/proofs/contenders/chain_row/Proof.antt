@@ -5,7 +5,7 @@ use Prim.Native.Nat.{ℕ, _+_, _*_, _≤_, _<_, _-_}
 use native.Mathlib.Omega.{arith}
 use lib.ListN.{length, getD, set, length-set}
 use borrow.Author.Count.{below-none}
-use Rattle.rounds.proofs.Chained.{before-row, row-more, row-mark}
+use Rattle.rounds.proofs.ChainTable.{before-row, row-more, row-mark}
 use borrow.Author.Needs.{needs}
 use Rattle.rounds.proofs.contenders.chain_row.Statement.{statement}
 use Rattle.rounds.proofs.contenders.chain_row.Tie as tie

@@ -8,9 +8,9 @@ use lib.ListN.{length, getD}
 use borrow.Author.Count.{below-more}
 use Rattle.record.specs.declared.Block.{Block}
 use Rattle.model.specs.Paths.{has}
-use Rattle.model.specs.Registers.{chains}
-use Rattle.links.specs.Unpacked.{Sources}
-use Rattle.rounds.proofs.Chained.{chains-next}
+use Rattle.model.specs.inside.RegisterChains.{chains}
+use Rattle.unpacked.specs.inside.UnpackedBlock.{Sources}
+use Rattle.rounds.proofs.ChainTable.{chains-next}
 use borrow.Author.Needs.{needs}
 use Rattle.rounds.proofs.contenders.chains_into.Statement.{statement}
 use Rattle.rounds.proofs.contenders.chains_into.Tie as tie

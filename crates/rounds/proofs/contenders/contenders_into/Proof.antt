@@ -6,14 +6,14 @@ use Prim.Native.Nat.{ℕ, _+_, _*_, _≤_, _<_, _-_}
 use native.Mathlib.Omega.{arith}
 use lib.ListN.{length, getD, drop, length-take, length-drop, length-set, getD-replicate}
 use borrow.Author.Count.{below-none}
-use Rattle.record.proofs.Ranges.{ranges}
-use Rattle.rounds.specs.Rows.{row, Chained}
-use Rattle.rounds.proofs.Chained.{nearby, nearby-contending}
-use Rattle.rounds.proofs.Parts.{placed-length, rows-more, all-placed}
+use Rattle.record.proofs.AcceptedRanges.{ranges}
+use Rattle.rounds.specs.inside.PairRows.{row, ChainRows}
+use Rattle.rounds.proofs.ChainTable.{nearby, nearby-contending}
+use Rattle.rounds.proofs.RowStore.{placed-length, rows-more, all-placed}
 use borrow.Author.Needs.{needs}
 use Rattle.rounds.proofs.contenders.contenders_into.Statement.{statement}
 use Rattle.rounds.proofs.contenders.contenders_into.Tie as tie
-use Rattle.seqs.proofs.Elements.{all-take, all-drop, all-set}
+use Rattle.lists.proofs.Elements.{all-take, all-drop, all-set}
 
 abbrev Inv-loop : tie.InvT-loop
 Inv-loop kinds s1 s2 list₀ count₀ n w a j₀ list count j =
@@ -72,10 +72,10 @@ returns c =
     let a : List Bool = g .last .1 .1 .1 .0 in (
       (t .inv .3, t .inv .4),
       λ b u same.
-          let table : Chained b (x .h .n) a = g .ensures b (sym (u .shape .n)) (u .sources) in
+          let table : ChainRows b (x .h .n) a = g .ensures b (sym (u .shape .n)) (u .sources) in
           record {
             few = t .inv .4;
-            those = λ j h.
+            numbersWhere = λ j h.
                 t .inv .5 j (omega (arith, u .shape .n))
                 ∙ ap (λ (w : ℕ). nearby w (x .kinds .now) a j) (u .shape .w)
                 ∙ nearby-contending b (ranges b (u .accepted)) (x .kinds .now) a same (rw (u .shape .n) at table) j h;

@@ -6,18 +6,18 @@ use Prim.Native.Nat.{ℕ, _+_, _*_, _≤_, _<_, _-_}
 use native.Mathlib.Omega.{arith}
 use lib.ListN.{length, getD, take, length-set}
 use lib.Dec.{eqb}
-use Rattle.seqs.specs.Lists.{pick, those}
-use Rattle.seqs.proofs.Growing.{those-none}
-use Rattle.rounds.proofs.Parts.{those-store, those-end}
+use Rattle.lists.specs.Lists.{pick, numbersWhere}
+use Rattle.lists.proofs.NumbersWhereGrowth.{numbersWhere-none}
+use Rattle.rounds.proofs.RowStore.{numbersWhere-store, numbersWhere-end}
 use borrow.Author.Needs.{needs}
 use Rattle.rounds.proofs.contenders.contenders_of.Statement.{statement}
 use Rattle.rounds.proofs.contenders.contenders_of.Tie as tie
-use Rattle.seqs.proofs.Elements.{all-set}
+use Rattle.lists.proofs.Elements.{all-set}
 
 abbrev Inv-loop : tie.InvT-loop
 Inv-loop w kinds a j row₀ kind at first len₀ i₀ row len i =
     (first ≡ j + 1 - w) × (first ≤ i) × (i - first ≤ j - first) × (len + first ≤ i) × (length row ≡ 60)
-    × (take len row ≡ those first i (λ k. eqb (getD kinds k 0) (getD kinds j 0) && not (getD a (64 * (j + 1) + (k + 1)) false)))
+    × (take len row ≡ numbersWhere first i (λ k. eqb (getD kinds k 0) (getD kinds j 0) && not (getD a (64 * (j + 1) + (k + 1)) false)))
     × ((k : ℕ) → getD row k 0 < 60)
 
 abbrev μ-loop : tie.MeasureT-loop
@@ -26,7 +26,7 @@ abbrev μ-loop : tie.MeasureT-loop
 loop-holds : tie.Need-loop-holds Inv-loop μ-loop
 loop-holds c =
     let p = c .before .before .before .before .before .pre in
-    (⊎-elim (λ w. omega arith) (λ w. omega arith) (c .if1 .came), omega arith, omega arith, omega arith, search needs, sym (those-none _ (c .if1 .first)), p .5)
+    (⊎-elim (λ w. omega arith) (λ w. omega arith) (c .if1 .came), omega arith, omega arith, omega arith, search needs, sym (numbersWhere-none _ (c .if1 .first)), p .5)
 
 loop-again : tie.Need-loop-again Inv-loop μ-loop
 loop-again c =
@@ -41,7 +41,7 @@ loop-again c =
       omega arith,
       omega (arith, m .ensures .1),
       simp length-set (search needs),
-      rw counted (those-store _ (t .row) _ (t .i) (t .len) (search needs) (search needs) (t .inv .5)),
+      rw counted (numbersWhere-store _ (t .row) _ (t .i) (t .len) (search needs) (search needs) (t .inv .5)),
       all-set (λ y. y < 60) (t .row) (t .len) (t .i) (t .inv .6) (search needs),
     )
 
@@ -49,7 +49,7 @@ returns : tie.Need-returns Inv-loop μ-loop
 returns c =
     let t = c .before .loop in
     let e : t .i - c .before .before .if1 .first ≡ c .before .before .before .before .before .before .before .args .j - c .before .before .if1 .first = search needs in
-    (search needs, rw (← t .inv .0) (t .inv .5 ∙ those-end _ _ _ _ e), t .inv .6)
+    (search needs, rw (← t .inv .0) (t .inv .5 ∙ numbersWhere-end _ _ _ _ e), t .inv .6)
 
 pub contenders-of-spec : {M : Type 1} → statement M
 contenders-of-spec =

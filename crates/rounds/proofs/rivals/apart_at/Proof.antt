@@ -1,6 +1,6 @@
 -- `rounds::rivals::apart_at` meets its contract. Assumes nothing.
 use mathlib.Core.Path.{refl}
-use Rattle.rounds.specs.Rows.{apartEX}
+use Rattle.rounds.specs.inside.PairRows.{apartEX}
 use borrow.Author.Needs.{needs}
 use Rattle.rounds.proofs.rivals.apart_at.Statement.{statement}
 use Rattle.rounds.proofs.rivals.apart_at.Tie as tie

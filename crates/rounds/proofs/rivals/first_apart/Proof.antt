@@ -5,10 +5,10 @@ use Prim.Native.Nat.{ℕ, _≤_, _<_, _-_, _*_, _+_}
 use native.Mathlib.Omega.{arith}
 use lib.ListN.{getD, take, drop}
 use borrow.Author.Count.{below-none, below-more}
-use Rattle.seqs.specs.Sums.{any}
-use Rattle.seqs.proofs.Least.{least-here, least-none}
-use Rattle.rounds.specs.Rows.{row, apartEX}
-use Rattle.rounds.proofs.Scanned.{pass-more, found-one}
+use Rattle.lists.specs.Sums.{any}
+use Rattle.lists.proofs.Least.{least-here, least-none}
+use Rattle.rounds.specs.inside.PairRows.{row, apartEX}
+use Rattle.rounds.proofs.RowScan.{pass-more, found-one}
 use borrow.Author.Needs.{needs}
 use Rattle.rounds.proofs.rivals.first_apart.Statement.{statement}
 use Rattle.rounds.proofs.rivals.first_apart.Tie as tie

@@ -4,14 +4,14 @@ use mathlib.Core.Bool.{Bool, not}
 use Prim.Native.Nat.{ℕ, _≤_, _<_, _-_}
 use native.Mathlib.Omega.{arith}
 use lib.ListN.{length, getD, take, drop, length-set}
-use Rattle.seqs.specs.Lists.{pick, kept}
-use Rattle.seqs.proofs.Fronts.{take-end}
-use Rattle.rounds.specs.Rows.{apartEX}
-use Rattle.rounds.proofs.Scanned.{keep-more, rest-more}
+use Rattle.lists.specs.Lists.{pick, kept}
+use Rattle.lists.proofs.Fronts.{take-end}
+use Rattle.rounds.specs.inside.PairRows.{apartEX}
+use Rattle.rounds.proofs.RowScan.{keep-more, rest-more}
 use borrow.Author.Needs.{needs}
 use Rattle.rounds.proofs.rivals.keep_row.Statement.{statement}
 use Rattle.rounds.proofs.rivals.keep_row.Tie as tie
-use Rattle.seqs.proofs.Elements.{all-set}
+use Rattle.lists.proofs.Elements.{all-set}
 
 abbrev Inv-loop : tie.InvT-loop
 Inv-loop his early late j row₀ len₀ k₀ k-end row len k =

@@ -7,14 +7,14 @@ use native.Mathlib.Omega.{arith}
 use lib.ListN.{length, getD, take, drop, set, length-set, length-drop}
 use lib.Seq.{length-take-le}
 use borrow.Author.Count.{below-more}
-use Rattle.seqs.specs.Lists.{kept}
-use Rattle.rounds.specs.Rows.{row, apartEX}
-use Rattle.rounds.proofs.Parts.{placed, placed-length, row-same, row-other, all-placed}
+use Rattle.lists.specs.Lists.{kept}
+use Rattle.rounds.specs.inside.PairRows.{row, apartEX}
+use Rattle.rounds.proofs.RowStore.{placed, placed-length, row-same, row-other, all-placed}
 use borrow.Author.Needs.{needs}
 use Rattle.rounds.proofs.rivals.keep_rows.Statement.{statement}
 use Rattle.rounds.proofs.rivals.keep_rows.Tie as tie
-use Rattle.seqs.proofs.Elements.{all-take, all-drop, all-set}
-use Rattle.seqs.proofs.Fronts.{take-most}
+use Rattle.lists.proofs.Elements.{all-take, all-drop, all-set}
+use Rattle.lists.proofs.Fronts.{take-most}
 
 abbrev Inv-loop : tie.InvT-loop
 Inv-loop first n his early late list₀ count₀ j₀ list count j =

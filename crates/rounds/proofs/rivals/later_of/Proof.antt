@@ -4,13 +4,13 @@ use mathlib.Core.Bool.{Bool}
 use Prim.Native.Nat.{ℕ, _≤_, _<_, _-_, _*_, _+_}
 use native.Mathlib.Omega.{arith}
 use lib.ListN.{length, getD, take, drop}
-use Rattle.seqs.specs.Lists.{those}
-use Rattle.rounds.specs.Rows.{Rows}
-use Rattle.rounds.proofs.Later.{laterOf, later-none, later-more}
+use Rattle.lists.specs.Lists.{numbersWhere}
+use Rattle.rounds.specs.inside.PairRows.{Rows}
+use Rattle.rounds.proofs.LaterLatencies.{laterOf, later-none, later-more}
 use borrow.Author.Needs.{needs}
 use Rattle.rounds.proofs.rivals.later_of.Statement.{statement}
 use Rattle.rounds.proofs.rivals.later_of.Tie as tie
-use Rattle.seqs.proofs.Elements.{getD-zeros, all-take, all-drop}
+use Rattle.lists.proofs.Elements.{getD-zeros, all-take, all-drop}
 
 abbrev Inv-loop : tie.InvT-loop
 Inv-loop n his list count most₀ j₀ most j = (j ≤ n) × (length most ≡ 60)
@@ -42,8 +42,8 @@ loop-again c =
       c .before .later-row .kept .1 .1 .0 ∙ t .inv .1,
       λ p R i h.
           let n : 60 * t .j + getD (x .count .now) (t .j) 0 - 60 * t .j ≡ getD (x .count .now) (t .j) 0 = omega arith in
-          let q : take (60 * t .j + getD (x .count .now) (t .j) 0 - 60 * t .j) (drop (60 * t .j) (x .list .now)) ≡ those 0 (t .j) (p (t .j))
-          = ap (λ (k : ℕ). take k (drop (60 * t .j) (x .list .now))) n ∙ R .those (t .j) (omega arith) in
+          let q : take (60 * t .j + getD (x .count .now) (t .j) 0 - 60 * t .j) (drop (60 * t .j) (x .list .now)) ≡ numbersWhere 0 (t .j) (p (t .j))
+          = ap (λ (k : ℕ). take k (drop (60 * t .j) (x .list .now))) n ∙ R .numbersWhere (t .j) (omega arith) in
           c .before .later-row .ensures i ∙ rw (q, t .inv .2 p R i h) (sym (later-more p (λ k. getD (x .his .now) k 0) i (t .j))),
     )
 

@@ -5,10 +5,10 @@ use native.Mathlib.Omega.{arith}
 use mathlib.Core.List.{List}
 use lib.ListN.{length, getD, take, length-set}
 use lib.Dec.{eqb}
-use Rattle.seqs.specs.Lists.{pick}
-use Rattle.seqs.specs.Sums.{any}
-use Rattle.seqs.proofs.Fronts.{take-end}
-use Rattle.rounds.proofs.Later.{raise-more}
+use Rattle.lists.specs.Lists.{pick}
+use Rattle.lists.specs.Sums.{any}
+use Rattle.lists.proofs.Fronts.{take-end}
+use Rattle.rounds.proofs.LaterLatencies.{raise-more}
 use borrow.Author.Needs.{needs}
 use Rattle.rounds.proofs.rivals.later_row.Statement.{statement}
 use Rattle.rounds.proofs.rivals.later_row.Tie as tie

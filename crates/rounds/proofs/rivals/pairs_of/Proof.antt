@@ -3,20 +3,20 @@ use mathlib.Core.Path.{_≡_, refl}
 use Prim.Native.Nat.{_≤_, _-_, _*_}
 use native.Mathlib.Omega.{arith}
 use lib.ListN.{take}
-use Rattle.seqs.specs.Sums.{total}
-use Rattle.seqs.proofs.Fronts.{total-more}
+use Rattle.lists.specs.Sums.{sum}
+use Rattle.lists.proofs.Fronts.{sum-more}
 use borrow.Author.Needs.{needs}
 use Rattle.rounds.proofs.rivals.pairs_of.Statement.{statement}
 use Rattle.rounds.proofs.rivals.pairs_of.Tie as tie
 
 abbrev Inv-loop : tie.InvT-loop
-Inv-loop n count sum₀ j₀ sum j = (j ≤ n) × (sum ≡ total (take j count)) × (sum ≤ 60 * j)
+Inv-loop n count x₀ j₀ x j = (j ≤ n) × (x ≡ sum (take j count)) × (x ≤ 60 * j)
 
 abbrev μ-loop : tie.MeasureT-loop
-μ-loop n count sum₀ j₀ sum j = n - j
+μ-loop n count x₀ j₀ x j = n - j
 
 loop-holds : tie.Need-loop-holds Inv-loop μ-loop
-unfolding total
+unfolding sum
 loop-holds c = (search needs, refl, search needs)
 
 add-sum : tie.Need-add-sum Inv-loop μ-loop
@@ -26,7 +26,7 @@ loop-again : tie.Need-loop-again Inv-loop μ-loop
 loop-again c =
     let t = c .before .before .loop in
     let x = c .before .before .before .args in
-    (search needs, omega (arith, total-more (x .count .now) (t .j) (search needs), t .inv .1), omega (arith, c .before .before .before .pre .2 (t .j), t .inv .2))
+    (search needs, omega (arith, sum-more (x .count .now) (t .j) (search needs), t .inv .1), omega (arith, c .before .before .before .pre .2 (t .j), t .inv .2))
 
 returns : tie.Need-returns Inv-loop μ-loop
 returns c =

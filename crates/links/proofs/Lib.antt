@@ -1,3 +1,0 @@
-pub mod Writers
-pub mod Ready
-pub mod Accepted

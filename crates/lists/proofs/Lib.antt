@@ -1,0 +1,13 @@
+pub mod Bools
+pub mod TableByIndex
+pub mod Least
+pub mod JoinedPieces
+pub mod Little
+pub mod Members
+pub mod InOrder
+pub mod NumbersWhere
+pub mod Sums
+pub mod NumbersWhereGrowth
+pub mod Fronts
+pub mod Elements
+pub mod BufferFill

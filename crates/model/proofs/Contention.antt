@@ -1,0 +1,140 @@
+-- What is computed as reached is what a path leads to; so two EX nodes contend exactly if their kinds are equal and there
+-- is no path from one to the other. Assumes nothing.
+use Prim.Native.Nat.{ℕ, zero, suc, _<_}
+use mathlib.Core.Path.{_≡_, refl, sym, ap, _∙_, subst}
+use mathlib.Core.Bool.{Bool, true, false, not, _&&_, _||_, false≢true, and-assoc, and-comm}
+use mathlib.Core.Logic.{_⊎_, inl, inr}
+use native.Mathlib.Omega.{arith}
+use lib.ListN.{getD}
+use lib.Dec.{eqb}
+use borrow.Author.Tests.{eqb-true, eqb-false, eq-eqb, ne-eqb}
+use Rattle.lists.specs.Lists.{In}
+use Rattle.lists.specs.Sums.{any}
+use Rattle.lists.proofs.Bools.{by-test, and-left, and-right, and-both, or-cases, or-first, or-second}
+use Rattle.lists.proofs.Members.{any-find, any-in, any-ext}
+use Rattle.lists.proofs.InOrder.{inOrder-keeps}
+use Rattle.record.specs.declared.Block.{Block}
+use Rattle.record.proofs.AcceptedRanges.{Ranges}
+use Rattle.model.specs.Nodes.{EX, nodes, node, entry}
+use Rattle.model.specs.Paths.{edgesInto, Path, reached, has, pairs, paths, contend, contending}
+use Rattle.model.specs.Paths.Path.{edge, on}
+use Rattle.model.proofs.Predecessors.{edges-below}
+use Rattle.model.proofs.PairSets.{has-pairs}
+
+module _ (b : Block) (A : Ranges b) (u : ℕ) where
+  -- p is u, or a path leads to it
+  abbrev from-u : ℕ → Bool
+  from-u p = eqb p u || getD (reached b u) p false
+
+  reached-is : (v : ℕ) → v < nodes b → getD (reached b u) v false ≡ any from-u (edgesInto b v)
+  unfolding reached
+  reached-is =
+      inOrder-keeps (λ before v. any (λ p. eqb p u || getD before p false) (edgesInto b v)) false
+      (λ s t v same. any-ext (λ p. eqb p u || getD s p false) (λ p. eqb p u || getD t p false) (edgesInto b v) (λ p i. ap (λ (x : Bool). eqb p u || x) (same p (edges-below b A p v i))))
+      (nodes b)
+
+  step : (v : ℕ) → v < nodes b → ((p : ℕ) → p < v → getD (reached b u) p false ≡ true → Path b u p) → getD (reached b u) v false ≡ true → Path b u v
+  step v l ih t =
+      let r = any-find from-u (edgesInto b v) (sym (reached-is v l) ∙ t) in
+      go (r .0) (r .1) (or-cases (eqb (r .0) u) (getD (reached b u) (r .0) false) (r .2))
+    where
+      go : (p : ℕ) → In p (edgesInto b v) → (eqb p u ≡ true) ⊎ (getD (reached b u) p false ≡ true) → Path b u v
+      go p i (inl e) = edge (subst (λ (x : ℕ). In x (edgesInto b v)) (eqb-true p u e) i)
+      go p i (inr h) = on (ih p (edges-below b A p v i) h) i
+
+  below : (k v : ℕ) → v < k → v < nodes b → getD (reached b u) v false ≡ true → Path b u v
+  below zero v h l t = absurd (omega arith)
+  below (suc k) v h l t = step v l (λ p o. below k p (omega arith) (omega arith)) t
+
+  -- WHAT IS REACHED HAS A PATH
+  pub reached-path : (v : ℕ) → v < nodes b → getD (reached b u) v false ≡ true → Path b u v
+  reached-path v l t = below (suc v) v (omega arith) l t
+
+  hit : (p v : ℕ) → v < nodes b → In p (edgesInto b v) → from-u p ≡ true → getD (reached b u) v false ≡ true
+  hit p v l i h = reached-is v l ∙ any-in from-u (edgesInto b v) p i h
+
+-- AND WHAT HAS A PATH IS REACHED
+pub path-reached : (b : Block) (A : Ranges b) (u v : ℕ) → v < nodes b → Path b u v → getD (reached b u) v false ≡ true
+path-reached b A u v l (edge i) = hit b A u u v l i (or-first (eqb u u) _ (eq-eqb u u refl))
+path-reached b A u v l (on {x = x} p i) =
+    hit b A u x v l i (or-second (eqb x u) _ (path-reached b A u x (omega (arith, edges-below b A x v i)) p))
+
+-- a path leads up in node order
+pub path-up : (b : Block) (A : Ranges b) (u v : ℕ) → Path b u v → u < v
+path-up b A u v (edge i) = edges-below b A u v i
+path-up b A u v (on {x = x} p i) = omega (arith, path-up b A u x p, edges-below b A x v i)
+
+-- ---- the table of paths between EX nodes has exactly those that there are
+module _ (b : Block) (A : Ranges b) (i j : ℕ) (hi : i < b .n) (hj : j < b .n) where
+  paths-at : has (paths b) i j ≡ getD (reached b (node EX i)) (node EX j) false
+  unfolding paths pairs
+  paths-at = has-pairs (b .n) (λ k l. getD (reached b (node EX k)) (node EX l) false) i j hi hj
+
+  pub paths-path : has (paths b) i j ≡ true → Path b (node EX i) (node EX j)
+  paths-path t = reached-path b A (node EX i) (node EX j) (omega arith) (sym paths-at ∙ t)
+
+  pub path-paths : Path b (node EX i) (node EX j) → has (paths b) i j ≡ true
+  path-paths p = paths-at ∙ path-reached b A (node EX i) (node EX j) (omega arith) p
+
+-- ---- two instructions contend, in the words of the rule
+pub record Contends (b : Block) (i j : ℕ) : Type 0 where
+  pub two : i ≡ j → ⊥
+  pub kinds : entry b i .kind ≡ entry b j .kind
+  pub no-path : Path b (node EX i) (node EX j) → ⊥
+  pub no-path-back : Path b (node EX j) (node EX i) → ⊥
+
+pub contending-at : (b : Block) (i j : ℕ) → i < b .n → j < b .n → has (contending b) i j ≡ contend b (paths b) i j
+unfolding contending
+contending-at b = has-pairs (b .n) (contend b (paths b))
+
+eqb-even : (i j : ℕ) → eqb i j ≡ eqb j i
+eqb-even i j =
+    by-test (eqb j i) (λ t. eq-eqb i j (sym (eqb-true j i t)) ∙ sym t) (λ t. ne-eqb i j (λ e. eqb-false j i t (sym e)) ∙ sym t)
+
+and-swap : (x p q : Bool) → (x && p && q) ≡ (x && q && p)
+and-swap x p q = and-assoc x p q ∙ ap (λ (y : Bool). x && y) (and-comm p q) ∙ sym (and-assoc x q p)
+
+-- a pair contends whichever of the two is named first
+pub contending-even : (b : Block) (i j : ℕ) → i < b .n → j < b .n → has (contending b) i j ≡ has (contending b) j i
+unfolding contend
+contending-even b i j hi hj =
+    contending-at b i j hi hj
+    ∙ rw (eqb-even i j, eqb-even (entry b i .kind) (entry b j .kind)) (and-swap (not (eqb j i) && eqb (entry b j .kind) (entry b i .kind)) (not (has (paths b) i j)) (not (has (paths b) j i)))
+    ∙ sym (contending-at b j i hj hi)
+
+module _ (b : Block) (A : Ranges b) (i j : ℕ) (hi : i < b .n) (hj : j < b .n) where
+  -- THE TABLE HAS EXACTLY THE PAIRS THAT CONTEND
+  pub contending-contends : has (contending b) i j ≡ true → Contends b i j
+  unfolding contend
+  contending-contends t =
+      let k = sym (contending-at b i j hi hj) ∙ t in
+      let s : (not (eqb i j) && eqb (entry b i .kind) (entry b j .kind) && not (has (paths b) i j)) ≡ true = and-left _ (not (has (paths b) j i)) k in
+      let r : (not (eqb i j) && eqb (entry b i .kind) (entry b j .kind)) ≡ true = and-left _ (not (has (paths b) i j)) s in
+      record {
+        two = λ e. false≢true (sym (ap not (eq-eqb i j e)) ∙ and-left (not (eqb i j)) _ r);
+        kinds = eqb-true (entry b i .kind) (entry b j .kind) (and-right (not (eqb i j)) _ r);
+        no-path = λ p. false≢true (sym (ap not (path-paths b A i j hi hj p)) ∙ and-right (not (eqb i j) && eqb (entry b i .kind) (entry b j .kind)) _ s);
+        no-path-back = λ p. false≢true (sym (ap not (path-paths b A j i hj hi p)) ∙ and-right (not (eqb i j) && eqb (entry b i .kind) (entry b j .kind) && not (has (paths b) i j)) _ k);
+      }
+
+  unmarked : (x y : ℕ) (hx : x < b .n) (hy : y < b .n) → (Path b (node EX x) (node EX y) → ⊥) → not (has (paths b) x y) ≡ true
+  unmarked x y hx hy f = by-test (has (paths b) x y) (λ t. absurd (f (paths-path b A x y hx hy t))) (λ t. ap not t)
+
+  pub contends-contending : Contends b i j → has (contending b) i j ≡ true
+  unfolding contend
+  contends-contending c =
+      contending-at b i j hi hj
+      ∙ and-both _ (not (has (paths b) j i))
+      (and-both _ (not (has (paths b) i j))
+      (and-both (not (eqb i j)) _ (ap not (ne-eqb i j (c .two))) (eq-eqb (entry b i .kind) (entry b j .kind) (c .kinds)))
+      (unmarked i j hi hj (c .no-path)))
+      (unmarked j i hj hi (c .no-path-back))
+
+  -- SO TWO EX OF ONE KIND CONTEND, OR A PATH LEADS FROM ONE TO THE OTHER
+  pub contend-or-path : (i ≡ j → ⊥) → entry b i .kind ≡ entry b j .kind → (has (contending b) i j ≡ true) ⊎ (Path b (node EX i) (node EX j) ⊎ Path b (node EX j) (node EX i))
+  unfolding contend
+  contend-or-path two kinds =
+      by-test (has (paths b) i j) (λ t. inr (inl (paths-path b A i j hi hj t)))
+      (λ f.
+      by-test (has (paths b) j i) (λ t. inr (inr (paths-path b A j i hj hi t)))
+      (λ g. inl (contending-at b i j hi hj ∙ rw (ne-eqb i j two, eq-eqb _ _ kinds, f, g) refl)))

@@ -1,0 +1,74 @@
+-- A latency list: its verdict by the first test that fails, and what an accepted one is. Assumes nothing.
+use Prim.Native.Nat.{ℕ, _≤_, _<_}
+use mathlib.Core.Path.{_≡_, ap, _∙_}
+use mathlib.Core.Bool.{not}
+use mathlib.Core.List.{List, [], _∷_}
+use native.Mathlib.Omega.{arith}
+use lib.ListN.{length, getD}
+use lib.Dec.{ltb}
+use borrow.Author.Tests.{eq-eqb, ne-eqb, eqb-true, ltb-false, not-false}
+use Rattle.lists.specs.Lists.{least}
+use Rattle.lists.proofs.Least.{least-below}
+use Rattle.lists.proofs.Bools.{or-left, or-right}
+use Rattle.record.specs.Refusals.{verdict}
+use Rattle.record.specs.declared.Block.{Block}
+use Rattle.record.proofs.Verdicts.{none, refuse, pass, passed, refuse-firstFault, pass-firstFault, passed-firstFault}
+use Rattle.record.proofs.AcceptedRanges.{Ranges}
+use Rattle.model.specs.Nodes.{nodes, instruction, entry, highest, chosen}
+use Rattle.model.proofs.Latencies.{latency-mono, latency-some}
+use Rattle.unpacked.proofs.BlockColumns.{Column, kind-column}
+use Rattle.play.specs.Refusals.{wrong, listTest, latencyTest, listTests}
+use Rattle.play.specs.inside.PlayFacts.{Chosen}
+
+-- ---- its verdict
+module _ (b : Block) (l : List ℕ) where
+  pub list-length : (length l ≡ b .n → ⊥) → verdict (listTests b l) ≡ (7, 0)
+  unfolding listTests listTest
+  list-length h = refuse (listTest b l) _ (ap not (ne-eqb (length l) (b .n) h))
+
+  past-length : length l ≡ b .n → verdict (listTests b l) ≡ verdict (latencyTest b l ∷ [])
+  unfolding listTests listTest
+  past-length e = pass (listTest b l) _ (ap not (eq-eqb (length l) (b .n) e))
+
+  pub list-latency : length l ≡ b .n → (i : ℕ) → i ≡ least 0 (b .n) (wrong b l) → i < b .n → verdict (listTests b l) ≡ (8, i)
+  unfolding latencyTest
+  list-latency e i f h = past-length e ∙ refuse-firstFault 8 0 (b .n) (wrong b l) [] i f h
+
+  pub list-none : length l ≡ b .n → b .n ≤ least 0 (b .n) (wrong b l) → verdict (listTests b l) ≡ (0, 0)
+  unfolding latencyTest
+  list-none e h = past-length e ∙ pass-firstFault 8 0 (b .n) (wrong b l) [] h ∙ none
+
+-- ---- an accepted one
+module _ (b : Block) (l : List ℕ) (z : verdict (listTests b l) ≡ (0, 0)) where
+  parts : (length l ≡ b .n) × (b .n ≤ least 0 (b .n) (wrong b l))
+  unfolding listTests listTest latencyTest
+  parts =
+      let x = passed (listTest b l) _ (omega arith) z in
+      (eqb-true _ _ (not-false _ (x .0)), passed-firstFault 8 0 (b .n) (wrong b l) [] (omega arith) (x .1) .0)
+
+  -- has n latencies
+  pub listed : length l ≡ b .n
+  listed = parts .0
+
+  -- each in its range
+  pub ranged : (i : ℕ) → i < b .n → (entry b i .lo ≤ getD l i 0) × (getD l i 0 ≤ entry b i .hi)
+  unfolding wrong
+  ranged i h =
+      let w = least-below 0 (b .n) (wrong b l) i (omega arith) (omega (arith, parts .1)) h in
+      (ltb-false (getD l i 0) (entry b i .lo) (or-left _ (ltb (entry b i .hi) (getD l i 0)) w), ltb-false (entry b i .hi) (getD l i 0) (or-right (ltb (getD l i 0) (entry b i .lo)) _ w))
+
+  -- and so, beside the column of kinds, is one of those that the play takes
+  pub accepted-chosen : (kinds : List ℕ) → Column b 0 kinds → Chosen b kinds l
+  accepted-chosen kinds k = record { kind = kind-column b kinds k; long = listed; least = λ i h. ranged i h .0; most = λ i h. ranged i h .1 }
+
+-- ---- the latencies that it chooses
+module _ (b : Block) (kinds l : List ℕ) (L : Chosen b kinds l) where
+  pub chosen-least : Ranges b → (v : ℕ) → v < nodes b → 1 ≤ chosen b l v
+  unfolding chosen
+  chosen-least A v h =
+      let i : instruction v < b .n = omega arith in
+      latency-some _ v (omega (arith, L .least (instruction v) i, A .instruction (instruction v) i .lo))
+
+  pub chosen-most : (v : ℕ) → v < nodes b → chosen b l v ≤ highest b v
+  unfolding chosen highest
+  chosen-most v h = latency-mono _ _ v (L .most (instruction v) (omega arith))

@@ -1,0 +1,45 @@
+-- The kinds of an accepted block, and the times of its play. Assumes nothing.
+use Prim.Native.Nat.{ℕ, _+_, _-_, _*_, _≤_, _<_}
+use mathlib.Core.Path.{_≡_, refl}
+use mathlib.Core.List.{List, _++_}
+use native.Mathlib.Omega.{arith}
+use lib.ListN.{getD, List·getD-append}
+use Rattle.record.specs.Refusals.{blockVerdict}
+use Rattle.record.specs.declared.Block.{Block}
+use Rattle.record.proofs.AcceptedRanges.{ranges}
+use Rattle.model.specs.Nodes.{CM, node, nodes, entry, chosen}
+use Rattle.model.specs.Cycles.{State, finish, turns, cycle, play, threeTimes, playLength, playTable}
+use Rattle.model.proofs.TableNumbers.{play-at, length-plays}
+use Rattle.schedules.proofs.PlayEnds.{play-limit}
+use Rattle.unpacked.proofs.BlockColumns.{Column, kind-column, few}
+use Rattle.play.specs.inside.PlayFacts.{Chosen}
+use Rattle.play.proofs.LatencyList.{chosen-least, chosen-most}
+
+module _ (b : Block) (z : blockVerdict b ≡ (0, 0)) where
+  pub some : 1 ≤ b .n
+  some = ranges b z .n .0
+
+  pub kinds-four : (kinds : List ℕ) → Column b 0 kinds → (i : ℕ) → i < b .n → getD kinds i 0 ≤ 3
+  kinds-four kinds e i l = omega (arith, kind-column b kinds e i l, ranges b z .instruction i l .kind)
+
+  -- ---- its play
+  module _ (cap : (i : ℕ) → entry b i .hi ≤ 255) (kinds l : List ℕ) (L : Chosen b kinds l) where
+    pub play-most : (v : ℕ) → v < nodes b → finish (chosen b l) (play b (chosen b l)) v ≤ 30780
+    play-most v h =
+        omega (arith, few b z, play-limit b z cap (chosen b l) (chosen-least b kinds l L (ranges b z)) (chosen-most b kinds l L) v h)
+
+  -- its length is the last number of its table
+  pub length-last : (l o out : List ℕ) → out ≡ playTable b (chosen b l) ++ o → getD out (15 * b .n - 1) 0 ≡ playLength b (chosen b l)
+  unfolding playLength threeTimes
+  length-last l o out e =
+      let lat = chosen b l in
+      let v : 5 * b .n - 1 ≡ node CM (b .n - 1) = omega (arith, some) in
+      let k : 15 * b .n - 1 ≡ 3 * (5 * b .n - 1) + 2 = omega (arith, some) in
+      rw (e, List·getD-append (playTable b lat) o 0 (15 * b .n - 1) (omega (arith, some, length-plays b lat)), k, play-at b lat (5 * b .n - 1) 2 (omega (arith, some)) (omega arith), v)
+      refl
+
+-- the state after a cycle, by its two parts
+pub cycled : (b : Block) (lat : ℕ → ℕ) (p : State) (t : ℕ) (s : List ℕ) → t ≡ p .t → s ≡ turns b lat t (p .starts) (nodes b)
+    → _≡_ {A = State} (record { t = p .t + 1; starts = s }) (cycle b lat p)
+unfolding cycle
+cycled b lat p t s e f = rw (f, e) refl

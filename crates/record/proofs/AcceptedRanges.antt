@@ -1,0 +1,73 @@
+-- What an accepted block is, in numbers: its header's and its instructions' ranges. Assumes nothing.
+use mathlib.Core.Path.{_≡_, refl, _∙_}
+use mathlib.Core.Bool.{true, false, _&&_, _||_}
+use Prim.Native.Nat.{ℕ, _≤_, _<_}
+use native.Mathlib.Omega.{arith}
+use lib.ListN.{getD}
+use lib.Dec.{leb, ltb, eqb}
+use borrow.Author.Tests.{lt-ltb, ltb-false, leb-true, not-false}
+use Rattle.lists.proofs.Least.{least-below}
+use Rattle.lists.proofs.Bools.{or-left, or-right, and-left, and-right}
+use Rattle.record.specs.Rules.{lows, highs, outside, kind, register, used, rule, broken}
+use Rattle.record.specs.Layout.{noEntry, headBytes, entryBytes, byteOf, encoded}
+use Rattle.record.specs.Refusals.{blockVerdict}
+use Rattle.record.specs.declared.Block.{Block}
+use Rattle.record.proofs.RecordBytes.{outside-head, broken-value}
+use Rattle.record.proofs.OutputVerdicts.{block-fine}
+
+-- instruction i of an accepted block
+pub record Instruction (b : Block) (i : ℕ) : Type 0 where
+  pub kind : getD (b .entries) i noEntry .kind ≤ 3
+  pub lo : 1 ≤ getD (b .entries) i noEntry .lo
+  pub hi : getD (b .entries) i noEntry .lo ≤ getD (b .entries) i noEntry .hi
+
+pub record Ranges (b : Block) : Type 0 where
+  pub n : (1 ≤ b .n) × (b .n ≤ 60)
+  pub q : (1 ≤ b .q) × (b .q ≤ 16)
+  pub w : (1 ≤ b .w) × (b .w ≤ 32)
+  pub f : (1 ≤ b .f) × (b .f ≤ 4)
+  pub d : (1 ≤ b .d) × (b .d ≤ 4)
+  pub c : (1 ≤ b .c) × (b .c ≤ 4)
+  pub origin : (1 ≤ b .origin) × (b .origin ≤ 2)
+  pub instruction : (i : ℕ) → i < b .n → Instruction b i
+
+in-range : (l h x : ℕ) → (ltb x l || ltb h x) ≡ false → (l ≤ x) × (x ≤ h)
+in-range l h x e = (ltb-false x l (or-left (ltb x l) (ltb h x) e), ltb-false h x (or-right (ltb x l) (ltb h x) e))
+
+first-three : (x : ℕ → ℕ) → used x ≡ true → (x 0 ≤ 3) × (1 ≤ x 1) × (x 1 ≤ x 2)
+unfolding used kind
+first-three x e =
+    let a : (leb (x 0) 3 && leb 1 (x 1) && leb (x 1) (x 2)) ≡ true
+    = and-left _ (register (x 3)) (and-left _ (register (x 4)) (and-left _ (register (x 5)) (and-left _ (eqb (x 6) 0) (and-left _ (eqb (x 7) 0) e)))) in
+    let d : (leb (x 0) 3 && leb 1 (x 1)) ≡ true = and-left _ (leb (x 1) (x 2)) a in
+    (leb-true (x 0) 3 (and-left _ (leb 1 (x 1)) d), leb-true 1 (x 1) (and-right (leb (x 0) 3) _ d), leb-true (x 1) (x 2) (and-right (leb (x 0) 3 && leb 1 (x 1)) _ a))
+
+module _ (b : Block) (z : blockVerdict b ≡ (0, 0)) where
+  header : (k : ℕ) → 4 ≤ k → k < 28 → outside (headBytes b) k ≡ false
+  header k a l = outside-head b k l ∙ least-below 4 28 (outside (encoded b)) k a (omega (arith, block-fine b z .0)) l
+
+  kept : (i : ℕ) → i < 60 → rule (b .n) i (byteOf (getD (b .entries) i noEntry)) ≡ true
+  kept i l =
+      not-false _ (broken-value b i l _ refl ∙ least-below 0 60 (broken (encoded b)) i (omega arith) (omega (arith, block-fine b z .1)) l)
+
+  instruction : b .n ≤ 60 → (i : ℕ) → i < b .n → Instruction b i
+  unfolding rule entryBytes
+  instruction few i l =
+      let k = kept i (omega arith) in
+      let u = first-three (byteOf (getD (b .entries) i noEntry)) (rw (lt-ltb i (b .n) l) at k) in
+      record { kind = u .0; lo = u .1; hi = u .2 }
+
+  pub ranges : Ranges b
+  unfolding outside headBytes lows highs
+  ranges =
+      let n = in-range 1 60 (b .n) (header 4 (omega arith) (omega arith)) in
+      record {
+        n = n;
+        q = in-range 1 16 (b .q) (header 5 (omega arith) (omega arith));
+        w = in-range 1 32 (b .w) (header 6 (omega arith) (omega arith));
+        f = in-range 1 4 (b .f) (header 7 (omega arith) (omega arith));
+        d = in-range 1 4 (b .d) (header 8 (omega arith) (omega arith));
+        c = in-range 1 4 (b .c) (header 9 (omega arith) (omega arith));
+        origin = in-range 1 2 (b .origin) (header 10 (omega arith) (omega arith));
+        instruction = instruction (n .1);
+      }

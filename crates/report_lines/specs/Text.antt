@@ -1,0 +1,20 @@
+-- Numbers and fields as text, in ASCII.
+use Prim.Native.Nat.{ℕ, zero, suc, _+_, _/_, _%_}
+use mathlib.Core.List.{List, [], _∷_, _++_}
+use lib.Dec.{ltb}
+use Rattle.lists.specs.Lists.{pick}
+
+-- the decimal digits of a number that has k at most, with no zero in front
+unfoldable pub digitsOf : ℕ → ℕ → List ℕ
+digitsOf zero x = []
+digitsOf (suc k) x = pick (ltb x 10) ((48 + x) ∷ []) (digitsOf k (x / 10) ++ ((48 + x % 10) ∷ []))
+
+-- a number of 64 bits in decimal: it has 20 digits at most
+unfoldable pub decimal : ℕ → List ℕ
+decimal x = digitsOf 20 x
+
+-- "One space parts the fields", and a line end follows the last
+unfoldable pub spaced : List (List ℕ) → List ℕ
+spaced [] = []
+spaced (x ∷ []) = x ++ (10 ∷ [])
+spaced (x ∷ y ∷ ys) = x ++ (32 ∷ spaced (y ∷ ys))

@@ -1,0 +1,30 @@
+-- The steps of a time line as the code takes them: the five starts of instruction i, one after the other, each a 16-bit number.
+use Prim.Native.Nat.{ℕ, _+_, _-_, _%_, min, max}
+use mathlib.Core.List.{List, map}
+use lib.ListN.{getD, set}
+use Rattle.lists.specs.Sums.{largest, sum}
+use Rattle.model.specs.Nodes.{IF, ID, EX, WB, CM, node}
+use Rattle.unpacked.specs.inside.ReadyByStage.{readyIF, readyID, readyCM}
+use Rattle.rounds.specs.inside.PairRows.{finishEX}
+
+-- node v starts at x
+abbrev pub starts : List ℕ → ℕ → ℕ → List ℕ
+starts s v x = set s v (x % 65536)
+
+-- IF and ID
+unfoldable pub fetched : ℕ → ℕ → ℕ → ℕ → List ℕ → ℕ → List ℕ
+fetched q f w d s i =
+    let s' = starts s (node IF i) (readyIF q f s i) in
+    starts s' (node ID i) (readyID w d s' i)
+
+-- EX, WB and CM, EX starting at x and taking l
+unfoldable pub committed : ℕ → ℕ → ℕ → List ℕ → ℕ → List ℕ
+committed c l x s i =
+    let s' = starts (starts s (node EX i) x) (node WB i) (x + l) in
+    starts s' (node CM i) (readyCM c s' i)
+
+-- the latest start of an EX that is ready at r: row has its earlier ones, most is the largest latency of its later ones or 0
+unfoldable pub latestOf : List ℕ → List ℕ → List ℕ → ℕ → ℕ → ℕ
+latestOf his s row most r =
+    let b = r + (max most 1 - 1) in
+    min (b + sum (map (λ j. getD his j 0) row)) (max b (largest (map (finishEX his s) row)))

@@ -1,0 +1,186 @@
+-- The pairs apart grow from round to round: a pair that a round finds apart is apart after every later one, so it is all one
+-- whether the set is kept or found anew, and the windows show which pairs are apart. Assumes nothing.
+--
+-- Why: the more pairs are known to be apart, the fewer contenders an EX has to wait for. Then B is no larger, the sum is no
+-- larger, nor is the largest latest finish; and the latest start is made of these by sum, larger and smaller. So in node
+-- order no latest time of the next round is above that of the round before, while the earliest times stay. A latest finish
+-- that was at most an earliest ready still is.
+use Prim.Native.Nat.{ℕ, zero, suc, _+_, _-_, _≤_, _<_, min, max}
+use mathlib.Core.Path.{_≡_, sym, ap, _∙_}
+use mathlib.Core.Bool.{Bool, true, false, not, false≢true}
+use mathlib.Core.List.{List, map}
+use mathlib.Core.Logic.{_⊎_, inl, inr}
+use native.Mathlib.Omega.{arith}
+use Rattle.lists.specs.Lists.{numbersWhere}
+use Rattle.lists.specs.Sums.{largest, sum}
+use Rattle.lists.proofs.Bools.{by-test, and-left, and-right, and-both, same-test}
+use Rattle.lists.proofs.Members.{in-map, map-in}
+use Rattle.lists.proofs.NumbersWhere.{numbersWhere-in}
+use Rattle.lists.proofs.Sums.{largest-in, largest-most}
+use Rattle.lists.proofs.NumbersWhereGrowth.{in-numbersWhere, numbersWhere-none}
+use Rattle.record.specs.declared.Block.{Block}
+use Rattle.record.proofs.AcceptedRanges.{Ranges}
+use Rattle.model.specs.Nodes.{EX, nodes, node, instruction, isEX, lowest, highest}
+use Rattle.model.specs.Paths.{Pairs, has, count, contending}
+use Rattle.model.specs.Cycles.{start, finish, ready}
+use Rattle.model.specs.Rounds.{earliest, R, rival, apart, windows, apartCount}
+use Rattle.model.proofs.PairSets.{count-ext, count-zero}
+use Rattle.model.proofs.RoundsEnd.{windows-settled}
+use Rattle.model.proofs.Latencies.{lowest-some}
+use Rattle.model.proofs.RoundRules.{Clear, apart-clear, clear-apart}
+use Rattle.schedules.proofs.Counting.{wt}
+use Rattle.schedules.proofs.BlockNet.{ready-done, done-ready, sum-more}
+use Rattle.theorems.specs.RoundByRound.{knownAt, lateAt, apartBy, apartAt}
+use Rattle.theorems.proofs.KnownPairs.{found, none-first, found-apart, apart-found, kept-or-found, kept, found-known, last-round}
+use Rattle.theorems.proofs.ModelRounds.{G, EX-node, late, at-EX, off-EX}
+
+-- ---- of fewer, the largest and the sum are no larger
+module _ (p q : ℕ → Bool) (n : ℕ) (fewer : (k : ℕ) → k < n → p k ≡ true → q k ≡ true) where
+  largest-fewer : (f g : ℕ → ℕ) (a c : ℕ) → c ≤ n → ((k : ℕ) → k < c → f k ≤ g k)
+      → largest (map f (numbersWhere a c p)) ≤ largest (map g (numbersWhere a c q))
+  largest-fewer f g a c m h =
+      largest-most (largest (map g (numbersWhere a c q))) (map f (numbersWhere a c p))
+      (λ x i.
+      let w = in-map f x (numbersWhere a c p) i in
+      let k = numbersWhere-in p a c (w .0) (w .1) in
+      let j = in-numbersWhere q a c (w .0) (k .0) (k .1) (fewer (w .0) (omega (arith, k .1)) (k .2)) in
+      omega (arith, w .2, h (w .0) (k .1), largest-in (map g (numbersWhere a c q)) (g (w .0)) (map-in g (w .0) (numbersWhere a c q) j)))
+
+  one-fewer : (k x : ℕ) → k < n → wt (p k) x ≤ wt (q k) x
+  one-fewer k x l = by-test (p k) (λ t. rw (t, fewer k l t) (omega arith)) (λ f. rw f (omega arith))
+
+  sum-fewer : (f : ℕ → ℕ) (c : ℕ) → c ≤ n → sum (map f (numbersWhere 0 c p)) ≤ sum (map f (numbersWhere 0 c q))
+  unfolding sum
+  sum-fewer f zero m = rw (numbersWhere-none p 0) (omega arith)
+  sum-fewer f (suc c) m = omega (arith, sum-more p f c, sum-more q f c, sum-fewer f c (omega arith), one-fewer c (f c) (omega arith))
+
+-- and so is what the round rules make of them
+latest-mono : (p q s t x y : ℕ) → p ≤ q → s ≤ t → x ≤ y → min (p + s) (max p x) ≤ min (q + t) (max q y)
+latest-mono p q s t x y h k m = omega arith
+
+module _ (b : Block) (A : Ranges b) where
+  -- no ready time is later where no start before it is
+  ready-mono : (lat : ℕ → ℕ) (s t : List ℕ) (v : ℕ) → ((u : ℕ) → u < v → start s u ≤ start t u) → ready b lat s v ≤ ready b lat t v
+  ready-mono lat s t v h =
+      let d = ready-done b A (lowest b) (lowest-some b A) lat t v (ready b lat t v) (omega arith) in
+      done-ready b A (lowest b) (lowest-some b A) lat s v (ready b lat t v)
+      (record {
+        fin = λ u i. omega (arith, d .fin u i, h u (G b A .fin-lt u v i));
+        ord = λ u i. omega (arith, d .ord u i, h u (G b A .ord-lt u v i));
+      })
+
+  -- ---- a round in which more pairs are known to be apart
+  module _ (known more : Pairs) (contains : (i j : ℕ) → i < b .n → j < b .n → has known i j ≡ true → has more i j ≡ true) where
+    fewer : (i j : ℕ) → i < b .n → j < b .n → rival (contending b) more i j ≡ true → rival (contending b) known i j ≡ true
+    unfolding rival
+    fewer i j hi hj t =
+        and-both (has (contending b) i j) (not (has known i j)) (and-left (has (contending b) i j) _ t)
+        (by-test (has known i j)
+        (λ k. absurd (false≢true (sym (ap not (contains i j hi hj k)) ∙ and-right (has (contending b) i j) (not (has more i j)) t)))
+        (λ k. ap not k))
+
+    one : (v : ℕ) → v < nodes b → ((u : ℕ) → u < v → start (late b more) u ≤ start (late b known) u) → start (late b more) v ≤ start (late b known) v
+    unfolding R finish
+    one v l ih =
+        by-test (isEX v)
+        (λ t.
+        let i : ℕ = instruction v in
+        let p : ℕ → Bool = rival (contending b) more i in
+        let q : ℕ → Bool = rival (contending b) known i in
+        let hi : ℕ → ℕ = λ j. highest b (node EX j) in
+        let few : (j : ℕ) → j < b .n → p j ≡ true → q j ≡ true = λ j. fewer i j (omega arith) in
+        let m = largest-fewer p q (b .n) few hi hi (i + 1) (b .n) (omega arith) (λ k a. omega arith) in
+        let x = largest-fewer p q (b .n) few (λ j. start (late b more) (node EX j) + hi j) (λ j. start (late b known) (node EX j) + hi j) 0 i (omega arith)
+        (λ k a. omega (arith, ih (node EX k) (omega (arith, EX-node v t)))) in
+        rw (at-EX b more A v l t, at-EX b known A v l t)
+        (latest-mono _ _ _ _ _ _ (omega (arith, r, m)) (sum-fewer p q (b .n) few hi i (omega arith)) x))
+        (λ f. omega (arith, r, off-EX b more A v l f, off-EX b known A v l f))
+      where
+        r : ready b (highest b) (late b more) v ≤ ready b (highest b) (late b known) v
+        r = ready-mono (highest b) (late b more) (late b known) v ih
+
+    below : (k v : ℕ) → v < k → v < nodes b → start (late b more) v ≤ start (late b known) v
+    below zero v h l = absurd (omega arith)
+    below (suc k) v h l = one v l (λ u o. below k u (omega arith) (omega arith))
+
+    -- MORE PAIRS APART, NO LATER TIMES
+    pub round-mono : (v : ℕ) → v < nodes b → start (late b more) v ≤ start (late b known) v
+    round-mono v l = below (suc v) v (omega arith) l
+
+  -- ---- the rounds one by one
+
+  -- no latest time is above that of the round before
+  late-falls : (k v : ℕ) → v < nodes b → start (lateAt b (suc k)) v ≤ start (lateAt b k) v
+  unfolding lateAt
+  late-falls k = round-mono (knownAt b k) (knownAt b (suc k)) (kept b k)
+
+  -- SO A PAIR THAT A ROUND FINDS APART IS APART AFTER THE NEXT
+  pub next-apart : (k i j : ℕ) → i < b .n → j < b .n → apartAt b k i j ≡ true → apartAt b (suc k) i j ≡ true
+  unfolding apartBy finish
+  next-apart k i j hi hj t =
+      let c = apart-clear b (earliest b) (lateAt b k) i j (and-right contends (apart b (earliest b) (lateAt b k) i j) t) in
+      and-both contends (apart b (earliest b) (lateAt b (suc k)) i j) (and-left contends (apart b (earliest b) (lateAt b k) i j) t)
+      (clear-apart b (earliest b) (lateAt b (suc k)) i j (go c))
+    where
+      contends : Bool
+      contends = has (contending b) i j
+
+      go : Clear b (earliest b) (lateAt b k) i j → Clear b (earliest b) (lateAt b (suc k)) i j
+      go (inl c) = inl (omega (arith, c, late-falls k (node EX i) (omega arith)))
+      go (inr c) = inr (omega (arith, c, late-falls k (node EX j) (omega arith)))
+
+  -- ---- the pairs kept are the pairs found anew
+  module _ (i j : ℕ) (hi : i < b .n) (hj : j < b .n) where
+    known-clear : (k : ℕ) → has (knownAt b (suc k)) i j ≡ true → apartAt b k i j ≡ true
+    known-clear zero t = go (kept-or-found b zero i j hi hj t)
+      where
+        go : (has (knownAt b zero) i j ≡ true) ⊎ (found b zero i j ≡ true) → apartAt b zero i j ≡ true
+        go (inl f) = absurd (none-first b i j f)
+        go (inr f) = found-apart b zero i j f
+    known-clear (suc k) t = go (known-clear k) (kept-or-found b (suc k) i j hi hj t)
+      where
+        go : (has (knownAt b (suc k)) i j ≡ true → apartAt b k i j ≡ true) → (has (knownAt b (suc k)) i j ≡ true) ⊎ (found b (suc k) i j ≡ true)
+            → apartAt b (suc k) i j ≡ true
+        go ih (inl f) = next-apart k i j hi hj (ih f)
+        go ih (inr f) = found-apart b (suc k) i j f
+
+    clear-known : (k : ℕ) → apartAt b k i j ≡ true → has (knownAt b (suc k)) i j ≡ true
+    clear-known k t =
+        by-test (has (knownAt b k) i j) (kept b k i j hi hj) (λ f. found-known b k i j hi hj (apart-found b k i j t f))
+
+    -- THE PAIRS KNOWN AFTER A ROUND ARE THOSE THAT ARE APART BY ITS TIMES
+    pub known-apart : (k : ℕ) → has (knownAt b (suc k)) i j ≡ apartAt b k i j
+    known-apart k = same-test (has (knownAt b (suc k)) i j) (apartAt b k i j) (known-clear k) (clear-known k)
+
+  -- ---- the windows' own times
+  abbrev last : ℕ
+  last = windows b .rounds - 1
+
+  -- the last round finds none
+  none-found : (i j : ℕ) → i < j → j < b .n → found b last i j ≡ false
+  none-found =
+      count-zero (b .n) (found b last)
+      (rw (← last-round b .known, ← last-round b .late) (windows-settled b .quiet))
+
+  -- so the pairs known in it are those known after it
+  same-known : (i j : ℕ) → i < j → j < b .n → has (knownAt b last) i j ≡ has (knownAt b (suc last)) i j
+  same-known i j h l = same-test (has (knownAt b last) i j) (has (knownAt b (suc last)) i j) (kept b last i j hi l) (λ t. go (kept-or-found b last i j hi l t))
+    where
+      hi : i < b .n
+      hi = omega arith
+
+      go : (has (knownAt b last) i j ≡ true) ⊎ (found b last i j ≡ true) → has (knownAt b last) i j ≡ true
+      go (inl t) = t
+      go (inr t) = absurd (false≢true (sym (none-found i j h l) ∙ t))
+
+  shown : (i j : ℕ) → i < j → j < b .n → has (windows b .known) i j ≡ apartBy b (windows b .late) i j
+  shown i j h l =
+      ap (λ (m : Pairs). has m i j) (last-round b .known)
+      ∙ same-known i j h l
+      ∙ known-apart i j (omega arith) l last
+      ∙ ap (λ (s : List ℕ). apartBy b s i j) (sym (last-round b .late))
+
+  -- THE PAIRS APART ARE THOSE THAT THE WINDOWS SHOW
+  pub count-shown : apartCount b ≡ count (b .n) (apartBy b (windows b .late))
+  unfolding apartCount
+  count-shown = count-ext (b .n) (has (windows b .known)) (apartBy b (windows b .late)) shown

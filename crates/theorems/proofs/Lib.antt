@@ -1,0 +1,10 @@
+pub mod ModelRounds
+pub mod KnownPairs
+pub mod WindowsBound
+pub mod ApartGrows
+pub mod PlaysInside
+pub mod TablesWithin
+pub mod ResultBytes
+pub mod LongestLatencies
+pub mod Demand
+pub mod Assessor

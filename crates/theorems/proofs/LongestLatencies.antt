@@ -1,0 +1,46 @@
+-- The play of all the highest latencies is no bound: block E, whose results are worked by hand. Assumes nothing.
+use Prim.Native.Nat.{ℕ, zero, suc}
+use mathlib.Core.Path.{_≡_, refl, ap}
+use mathlib.Core.List.{List, [], _∷_}
+use native.Mathlib.Omega.{arith}
+use lib.ListN.{getD}
+use Rattle.lists.specs.Lists.{tab, tabFrom, least, leastFrom}
+use Rattle.lists.proofs.Elements.{getD-all}
+use Rattle.record.specs.Layout.{noEntry}
+use Rattle.record.specs.Refusals.{verdict}
+use Rattle.model.specs.Blocks.{blockE}
+use Rattle.model.proofs.WorkedResults.{summary, worked, worked-by-hand, blocks-accepted}
+use Rattle.play.specs.Refusals.{wrong, listTest, latencyTest, listTests}
+use Rattle.theorems.specs.Words.{ByteLatencies, AcceptedList, longest, Anomaly}
+
+longest-E : longest blockE ≡ 4 ∷ 4 ∷ 4 ∷ 12 ∷ []
+unfolding longest tab tabFrom blockE
+longest-E = refl
+
+listed-E : AcceptedList blockE (1 ∷ 4 ∷ 4 ∷ 12 ∷ []) × AcceptedList blockE (4 ∷ 4 ∷ 4 ∷ 12 ∷ [])
+unfolding verdict listTests listTest latencyTest wrong least leastFrom blockE
+listed-E = (refl, refl)
+
+bytes-E : ByteLatencies blockE
+unfolding blockE
+bytes-E zero = omega arith
+bytes-E (suc zero) = omega arith
+bytes-E (suc (suc zero)) = omega arith
+bytes-E (suc (suc (suc zero))) = omega arith
+bytes-E (suc (suc (suc (suc i)))) = rw (getD-all noEntry 56 i) (omega arith)
+
+pub worst-E : Anomaly blockE (1 ∷ 4 ∷ 4 ∷ 12 ∷ []) 23 27
+unfolding worked summary
+worst-E =
+    let first : List ℕ → ℕ = λ xs. getD xs 0 0 in
+    let rows = worked-by-hand .1 .1 .1 .1 in
+    record {
+      accepted = blocks-accepted .1 .1 .1 .1 .0;
+      bytes = bytes-E;
+      longestListed = rw longest-E (listed-E .1);
+      listed = listed-E .0;
+      underLongest = rw longest-E (ap first (rows .1 .1 .1 .1 .1 .1 .0));
+      underList = ap first (rows .1 .1 .1 .1 .1 .0);
+      bounded = ap first (rows .0);
+      sooner = omega arith;
+    }

@@ -1,0 +1,50 @@
+-- The words of the theorems: which blocks and latency lists they speak of, and what it is to be inside a window.
+use Prim.Native.Nat.{ℕ, _≤_, _<_}
+use mathlib.Core.Path.{_≡_}
+use mathlib.Core.List.{List}
+use Rattle.lists.specs.Lists.{tab}
+use Rattle.record.specs.Refusals.{verdict, blockVerdict}
+use Rattle.record.specs.declared.Block.{Block}
+use Rattle.model.specs.Nodes.{entry, lowest, highest, chosen}
+use Rattle.model.specs.Cycles.{start, finish, ready, play, playLength}
+use Rattle.model.specs.Rounds.{earliest, R, windows, bound}
+use Rattle.play.specs.Refusals.{listTests}
+
+-- a block that tests 4 and 5 accept
+abbrev pub AcceptedBlock : Block → Type 0
+AcceptedBlock b = blockVerdict b ≡ (0, 0)
+
+-- "Byte .. 2 highest latency hi": one whose highest latencies are bytes, as those of every block value of the code are
+abbrev pub ByteLatencies : Block → Type 0
+ByteLatencies b = (i : ℕ) → entry b i .hi ≤ 255
+
+-- a latency list that tests 7 and 8 accept
+abbrev pub AcceptedList : Block → List ℕ → Type 0
+AcceptedList b l = verdict (listTests b l) ≡ (0, 0)
+
+-- a time and its window
+pub record Within (early time late : ℕ) : Type 0 where
+  pub from : early ≤ time
+  pub to : time ≤ late
+
+-- "per node, earliest ready, start, finish, then latest ready, start, finish": ready, start and finish of node v in the
+-- play under the latencies lat, each within its window
+pub record Inside (b : Block) (lat : ℕ → ℕ) (v : ℕ) : Type 0 where
+  pub readyIn : Within (ready b (lowest b) (earliest b) v) (ready b lat (play b lat) v) (R b (windows b .late) v)
+  pub startIn : Within (start (earliest b) v) (start (play b lat) v) (start (windows b .late) v)
+  pub finishIn : Within (finish (lowest b) (earliest b) v) (finish lat (play b lat) v) (finish (highest b) (windows b .late) v)
+
+-- "all the highest latencies"
+unfoldable pub longest : Block → List ℕ
+longest b = tab (b .n) (λ i. entry b i .hi)
+
+-- a block that ends at `end` under them, and at its bound, which is later, under the list l
+pub record Anomaly (b : Block) (l : List ℕ) (end late : ℕ) : Type 0 where
+  pub accepted : AcceptedBlock b
+  pub bytes : ByteLatencies b
+  pub longestListed : AcceptedList b (longest b)
+  pub listed : AcceptedList b l
+  pub underLongest : playLength b (chosen b (longest b)) ≡ end
+  pub underList : playLength b (chosen b l) ≡ late
+  pub bounded : bound b ≡ late
+  pub sooner : end < late

@@ -1,0 +1,18 @@
+-- `trial_second::edges::family` is safe and ends. Assumes nothing.
+use Prim.Native.Nat.{_≤_, _-_}
+use borrow.Author.Needs.{needs}
+use Rattle.trial_second.proofs.edges.family.Statement.{statement}
+use Rattle.trial_second.proofs.edges.family.Tie as tie
+
+abbrev Inv-loop : tie.InvT-loop
+Inv-loop edges₀ n place sort from to step far i₀ edges i = i ≤ 60
+
+abbrev μ-loop : tie.MeasureT-loop
+μ-loop edges₀ n place sort from to step far i₀ edges i = 60 - i
+
+pub family-spec : {M : Type 1} → statement M
+family-spec =
+    tie.close
+    (tie.spec Inv-loop μ-loop (λ c. search needs) (λ c. search needs) (λ c κs. search needs) (λ c. search needs)
+    (λ c κs. search needs) (λ c κs. search needs) (λ c κs. search needs) (λ c. search needs) (λ c. search needs)
+    (λ c. search needs) (λ c. search needs))

@@ -1,0 +1,3 @@
+pub mod LastWriters
+pub mod ReadyTimes
+pub mod BlockColumns

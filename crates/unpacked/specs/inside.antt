@@ -1,0 +1,2 @@
+pub mod ReadyByStage
+pub mod UnpackedBlock
