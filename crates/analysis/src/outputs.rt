@@ -13,10 +13,10 @@ ghost use Rattle.unpacked.specs.inside.UnpackedBlock.{Sources};
 ghost use Rattle.unpacked.specs.inside.ReadyByStage.{readyEX};
 ghost use Rattle.rounds.specs.inside.PairRows.{finishEX};
 ghost use Rattle.analysis.specs.Result.{headOf, fourOf, result};
-use unpacked::latency_of;
 use record::Block;
 use rounds::Counts;
 use rounds::finish_ex;
+use unpacked::latency_of;
 
 fn low(x: u32) -> u8
     ensures { λ r. ⌜ r ≡ x % 256 ⌝ }

@@ -22,8 +22,8 @@ use Rattle.lists.proofs.TableByIndex.{length-tab, getD-tab, is-tab}
 use Rattle.lists.proofs.InOrder.{inOrder-keeps}
 use Rattle.record.specs.declared.Block.{Block}
 use Rattle.record.proofs.AcceptedRanges.{Ranges}
-use Rattle.model.specs.Nodes.{ID, EX, WB, CM, node, stage, instruction, entry, Edges, edges, finishEdges, orderEdges, sources, finishInto, orderInto}
-use Rattle.model.specs.Paths.{edgesInto, Path, Pairs, has, paths, contend, contending}
+use Rattle.model.specs.Nodes.{nodes, ID, EX, WB, CM, node, stage, instruction, entry, Edges, edges, finishEdges, orderEdges, sources, finishInto, orderInto}
+use Rattle.model.specs.Paths.{edgesInto, Edge, Path, Pairs, has, paths, contend, contending}
 use Rattle.model.specs.Paths.Path.{edge, on}
 use Rattle.model.specs.inside.RegisterChains.{chains}
 use Rattle.model.proofs.Predecessors.{Leads, into-leads, Sourced, finish-cases, finish-on, source-on, edge-on, sources-before}
@@ -101,15 +101,15 @@ module _ (b : Block) (i : ℕ) where
 
   edge-carries : (u v : ℕ) → In u (edgesInto b v) → Said b i (stage u) (instruction u) → Said b i (stage v) (instruction v)
   unfolding edgesInto orderInto
-  edge-carries u v e h = go (in-split u (finishInto b v) (orderInto b v) e)
+  edge-carries u v e h = by-edge (in-split u (finishInto b v) (orderInto b v) e)
     where
       by-finish : Leads (finishEdges b) u v ⊎ Sourced b u v → Said b i (stage v) (instruction v)
       by-finish (inl l) = leads-carries (finishEdges b) finish-carries u v l h
       by-finish (inr s) = source-carries u v s h
 
-      go : In u (finishInto b v) ⊎ In u (orderInto b v) → Said b i (stage v) (instruction v)
-      go (inl k) = by-finish (finish-cases b u v k)
-      go (inr k) = leads-carries (orderEdges b) order-carries u v (into-leads (orderEdges b) u v k) h
+      by-edge : In u (finishInto b v) ⊎ In u (orderInto b v) → Said b i (stage v) (instruction v)
+      by-edge (inl k) = by-finish (finish-cases b u v k)
+      by-edge (inr k) = leads-carries (orderEdges b) order-carries u v (into-leads (orderEdges b) u v k) h
 
   first : (u : ℕ) → u ≡ node EX i → Said b i (stage u) (instruction u)
   first u e =
@@ -118,8 +118,8 @@ module _ (b : Block) (i : ℕ) where
       subst₂ (λ (x y : ℕ). Said b i x y) g a (inl refl)
 
   path-carries : (u v : ℕ) → u ≡ node EX i → Path b u v → Said b i (stage v) (instruction v)
-  path-carries u v e (edge h) = edge-carries u v h (first u e)
-  path-carries u v e (on {x = x} p h) = edge-carries x v h (path-carries u x e p)
+  path-carries u v e (edge h) = edge-carries u v (h .from) (first u e)
+  path-carries u v e (on {x = x} p h) = edge-carries x v (h .from) (path-carries u x e p)
 
 -- ---- EX(i) REACHES EX(j) EXACTLY IF j IS W OR MORE AFTER i OR A CHAIN OF REGISTERS LEADS THERE
 module _ (b : Block) (i j : ℕ) where
@@ -127,66 +127,72 @@ module _ (b : Block) (i j : ℕ) where
   path-chain l p =
       let g : (5 * j + 2) % 5 ≡ 2 = omega arith in
       let a : (5 * j + 2) / 5 ≡ j = omega arith in
-      go (subst₂ (λ (x y : ℕ). Said b i x y) g a (path-carries b i (node EX i) (node EX j) refl p))
+      not-itself (subst₂ (λ (x y : ℕ). Said b i x y) g a (path-carries b i (node EX i) (node EX j) refl p))
     where
-      go : Near b i j → Chain b i j ⊎ (i + b .w ≤ j)
-      go (inl e) = absurd (omega arith)
-      go (inr x) = x
+      not-itself : Near b i j → Chain b i j ⊎ (i + b .w ≤ j)
+      not-itself (inl e) = absurd (omega arith)
+      not-itself (inr x) = x
 
--- the edges that the way back takes
+-- the edges that the way back takes, between instructions below n
 module _ (b : Block) where
-  finish-edge : (u v : ℕ) → In u (finishInto b v) → In u (edgesInto b v)
+  finish-edge : (u v : ℕ) → v < nodes b → In u (finishInto b v) → Edge b u v
   unfolding edgesInto
-  finish-edge u v h = in-left u (finishInto b v) (orderInto b v) h
+  finish-edge u v l h = record { there = l; from = in-left u (finishInto b v) (orderInto b v) h }
 
-  order-edge : (u v : ℕ) → In u (orderInto b v) → In u (edgesInto b v)
+  order-edge : (u v : ℕ) → v < nodes b → In u (orderInto b v) → Edge b u v
   unfolding edgesInto
-  order-edge u v h = in-right u (finishInto b v) (orderInto b v) h
+  order-edge u v l h = record { there = l; from = in-right u (finishInto b v) (orderInto b v) h }
 
-  within : (g h i : ℕ) → h < 5 → In (edges g h 0) (finishEdges b) → In (node g i) (edgesInto b (node h i))
-  within g h i l m =
+  within : (g h i : ℕ) → h < 5 → i < b .n → In (edges g h 0) (finishEdges b) → Edge b (node g i) (node h i)
+  within g h i l k m =
       let e : i + 0 ≡ i = omega arith in
-      finish-edge (node g i) (node h i) (subst (λ (x : ℕ). In (node g i) (finishInto b (node h x))) e (finish-on b g h 0 i l m))
+      finish-edge (node g i) (node h i) (omega arith) (subst (λ (x : ℕ). In (node g i) (finishInto b (node h x))) e (finish-on b g h 0 i l m))
 
-  ID-EX : (i : ℕ) → In (node ID i) (edgesInto b (node EX i))
+  ID-EX : (i : ℕ) → i < b .n → Edge b (node ID i) (node EX i)
   unfolding finishEdges
-  ID-EX i = within ID EX i (omega arith) (inr (inl refl))
+  ID-EX i k = within ID EX i (omega arith) k (inr (inl refl))
 
-  EX-WB : (i : ℕ) → In (node EX i) (edgesInto b (node WB i))
+  EX-WB : (i : ℕ) → i < b .n → Edge b (node EX i) (node WB i)
   unfolding finishEdges
-  EX-WB i = within EX WB i (omega arith) (inr (inr (inl refl)))
+  EX-WB i k = within EX WB i (omega arith) k (inr (inr (inl refl)))
 
-  WB-CM : (i : ℕ) → In (node WB i) (edgesInto b (node CM i))
+  WB-CM : (i : ℕ) → i < b .n → Edge b (node WB i) (node CM i)
   unfolding finishEdges
-  WB-CM i = within WB CM i (omega arith) (inr (inr (inr (inl refl))))
+  WB-CM i k = within WB CM i (omega arith) k (inr (inr (inr (inl refl))))
 
-  CM-ID : (i : ℕ) → In (node CM i) (edgesInto b (node ID (i + b .w)))
+  CM-ID : (i : ℕ) → i + b .w < b .n → Edge b (node CM i) (node ID (i + b .w))
   unfolding finishEdges
-  CM-ID i = finish-edge (node CM i) (node ID (i + b .w)) (finish-on b CM ID (b .w) i (omega arith) (inr (inr (inr (inr (inr (inl refl)))))))
+  CM-ID i k =
+      finish-edge (node CM i) (node ID (i + b .w)) (omega arith)
+      (finish-on b CM ID (b .w) i (omega arith) (inr (inr (inr (inr (inr (inl refl)))))))
 
-  ID-ID : (i : ℕ) → In (node ID i) (edgesInto b (node ID (i + 1)))
+  ID-ID : (i : ℕ) → i + 1 < b .n → Edge b (node ID i) (node ID (i + 1))
   unfolding orderInto orderEdges
-  ID-ID i = order-edge (node ID i) (node ID (i + 1)) (edge-on (orderEdges b) ID ID 1 i (omega arith) (inr (inl refl)))
+  ID-ID i k =
+      order-edge (node ID i) (node ID (i + 1)) (omega arith) (edge-on (orderEdges b) ID ID 1 i (omega arith) (inr (inl refl)))
 
-  WB-EX : (i j : ℕ) → In i (sources b j) → In (node WB i) (edgesInto b (node EX j))
-  WB-EX i j h = finish-edge (node WB i) (node EX j) (source-on b i j h)
+  WB-EX : (i j : ℕ) → j < b .n → In i (sources b j) → Edge b (node WB i) (node EX j)
+  WB-EX i j k h = finish-edge (node WB i) (node EX j) (omega arith) (source-on b i j h)
 
-  pub chain-path : (i j : ℕ) → Chain b i j → Path b (node EX i) (node EX j)
-  chain-path i j (reads h) = on (edge (EX-WB i)) (WB-EX i j h)
-  chain-path i j (then-reads {a = a} c h) = on (on (chain-path i a c) (EX-WB a)) (WB-EX a j h)
+  pub chain-path : (i j : ℕ) → j < b .n → Chain b i j → Path b (node EX i) (node EX j)
+  chain-path i j k (reads h) = on (edge (EX-WB i (omega (arith, sources-before b j i h)))) (WB-EX i j k h)
+  chain-path i j k (then-reads {a = a} c h) =
+      let l : a < b .n = omega (arith, sources-before b j a h) in
+      on (on (chain-path i a l c) (EX-WB a l)) (WB-EX a j k h)
 
-  to-ID : (k i : ℕ) → Path b (node EX i) (node ID (i + b .w + k))
-  to-ID zero i =
+  to-ID : (k i : ℕ) → i + b .w + k < b .n → Path b (node EX i) (node ID (i + b .w + k))
+  to-ID zero i l =
       let e : i + b .w ≡ i + b .w + 0 = omega arith in
-      subst (λ (x : ℕ). Path b (node EX i) (node ID x)) e (on (on (edge (EX-WB i)) (WB-CM i)) (CM-ID i))
-  to-ID (suc k) i =
+      subst (λ (x : ℕ). Path b (node EX i) (node ID x)) e
+      (on (on (edge (EX-WB i (omega arith))) (WB-CM i (omega arith))) (CM-ID i (omega arith)))
+  to-ID (suc k) i l =
       let e : i + b .w + k + 1 ≡ i + b .w + suc k = omega arith in
-      subst (λ (x : ℕ). Path b (node EX i) (node ID x)) e (on (to-ID k i) (ID-ID (i + b .w + k)))
+      subst (λ (x : ℕ). Path b (node EX i) (node ID x)) e (on (to-ID k i (omega arith)) (ID-ID (i + b .w + k) (omega arith)))
 
-  pub far-path : (i j : ℕ) → i + b .w ≤ j → Path b (node EX i) (node EX j)
-  far-path i j h =
+  pub far-path : (i j : ℕ) → j < b .n → i + b .w ≤ j → Path b (node EX i) (node EX j)
+  far-path i j k h =
       let e : i + b .w + (j - (i + b .w)) ≡ j = omega arith in
-      on (subst (λ (x : ℕ). Path b (node EX i) (node ID x)) e (to-ID (j - (i + b .w)) i)) (ID-EX j)
+      on (subst (λ (x : ℕ). Path b (node EX i) (node ID x)) e (to-ID (j - (i + b .w)) i (omega arith))) (ID-EX j k)
 
 -- ---- the chains as a table
 module _ (b : Block) where
@@ -214,18 +220,18 @@ module _ (b : Block) where
   chain-chains i j hi hj (then-reads {a = a} c h) =
       chains-is i j hi hj ∙ any-in (from-i i) (sources b j) a h (or-second (eqb a i) _ (chain-chains i a hi (omega (arith, sources-before b j a h)) c))
 
-  below : (k i j : ℕ) → j < k → i < b .n → j < b .n → has (chains b) j i ≡ true → Chain b i j
-  below zero i j l hi hj t = absurd (omega arith)
-  below (suc k) i j l hi hj t =
+  chains-below : (k i j : ℕ) → j < k → i < b .n → j < b .n → has (chains b) j i ≡ true → Chain b i j
+  chains-below zero i j l hi hj t = absurd (omega arith)
+  chains-below (suc k) i j l hi hj t =
       let r = any-find (from-i i) (sources b j) (sym (chains-is i j hi hj) ∙ t) in
-      go (r .0) (r .1) (or-cases (eqb (r .0) i) (has (chains b) (r .0) i) (r .2)) (λ a o. below k i a (omega arith) hi (omega arith))
+      by-source (r .0) (r .1) (or-cases (eqb (r .0) i) (has (chains b) (r .0) i) (r .2)) (λ a o. chains-below k i a (omega arith) hi (omega arith))
     where
-      go : (a : ℕ) → In a (sources b j) → (eqb a i ≡ true) ⊎ (has (chains b) a i ≡ true) → ((x : ℕ) → x < j → has (chains b) x i ≡ true → Chain b i x) → Chain b i j
-      go a h (inl e) ih = reads (subst (λ (x : ℕ). In x (sources b j)) (eqb-true a i e) h)
-      go a h (inr e) ih = then-reads (ih a (sources-before b j a h) e) h
+      by-source : (a : ℕ) → In a (sources b j) → (eqb a i ≡ true) ⊎ (has (chains b) a i ≡ true) → ((x : ℕ) → x < j → has (chains b) x i ≡ true → Chain b i x) → Chain b i j
+      by-source a h (inl e) ih = reads (subst (λ (x : ℕ). In x (sources b j)) (eqb-true a i e) h)
+      by-source a h (inr e) ih = then-reads (ih a (sources-before b j a h) e) h
 
   pub chains-chain : (i j : ℕ) → i < b .n → j < b .n → has (chains b) j i ≡ true → Chain b i j
-  chains-chain i j hi hj t = below (suc j) i j (omega arith) hi hj t
+  chains-chain i j hi hj t = chains-below (suc j) i j (omega arith) hi hj t
 
 -- ---- THE SAME AS ONE TEST, AND WHAT IT SAYS OF CONTENDERS
 module _ (b : Block) (A : Ranges b) (i j : ℕ) (l : i < j) (h : j < b .n) where
@@ -234,8 +240,8 @@ module _ (b : Block) (A : Ranges b) (i j : ℕ) (l : i < j) (h : j < b .n) where
   far-or-chained (inr f) = or-first (leb (i + b .w) j) _ (le-leb (i + b .w) j f)
 
   to-path : (leb (i + b .w) j ≡ true) ⊎ (has (chains b) j i ≡ true) → Path b (node EX i) (node EX j)
-  to-path (inl f) = far-path b i j (leb-true (i + b .w) j f)
-  to-path (inr c) = chain-path b i j (chains-chain b i j (omega arith) h c)
+  to-path (inl f) = far-path b i j h (leb-true (i + b .w) j f)
+  to-path (inr c) = chain-path b i j h (chains-chain b i j (omega arith) h c)
 
   pub paths-chains : has (paths b) i j ≡ (leb (i + b .w) j || has (chains b) j i)
   paths-chains =
@@ -247,7 +253,7 @@ module _ (b : Block) (A : Ranges b) (i j : ℕ) (l : i < j) (h : j < b .n) where
   pub contend-near : has (contending b) i j ≡ true → j < i + b .w
   contend-near t =
       by-test (leb (i + b .w) j)
-      (λ f. absurd (contending-contends b A i j (omega arith) h t .no-path (far-path b i j (leb-true (i + b .w) j f))))
+      (λ f. absurd (contending-contends b A i j (omega arith) h t .no-path (far-path b i j h (leb-true (i + b .w) j f))))
       (λ f. leb-false (i + b .w) j f)
 
   none-back : has (paths b) j i ≡ false

@@ -16,7 +16,7 @@ use Rattle.lists.proofs.InOrder.{inOrder-keeps}
 use Rattle.record.specs.declared.Block.{Block}
 use Rattle.record.proofs.AcceptedRanges.{Ranges}
 use Rattle.model.specs.Nodes.{EX, nodes, node, entry}
-use Rattle.model.specs.Paths.{edgesInto, Path, reached, has, pairs, paths, contend, contending}
+use Rattle.model.specs.Paths.{edgesInto, Path, reached, has, pairs, paths, Contends, contend, contending}
 use Rattle.model.specs.Paths.Path.{edge, on}
 use Rattle.model.proofs.Predecessors.{edges-below}
 use Rattle.model.proofs.PairSets.{has-pairs}
@@ -36,33 +36,37 @@ module _ (b : Block) (A : Ranges b) (u : ℕ) where
   step : (v : ℕ) → v < nodes b → ((p : ℕ) → p < v → getD (reached b u) p false ≡ true → Path b u p) → getD (reached b u) v false ≡ true → Path b u v
   step v l ih t =
       let r = any-find from-u (edgesInto b v) (sym (reached-is v l) ∙ t) in
-      go (r .0) (r .1) (or-cases (eqb (r .0) u) (getD (reached b u) (r .0) false) (r .2))
+      by-last-edge (r .0) (r .1) (or-cases (eqb (r .0) u) (getD (reached b u) (r .0) false) (r .2))
     where
-      go : (p : ℕ) → In p (edgesInto b v) → (eqb p u ≡ true) ⊎ (getD (reached b u) p false ≡ true) → Path b u v
-      go p i (inl e) = edge (subst (λ (x : ℕ). In x (edgesInto b v)) (eqb-true p u e) i)
-      go p i (inr h) = on (ih p (edges-below b A p v i) h) i
+      by-last-edge : (p : ℕ) → In p (edgesInto b v) → (eqb p u ≡ true) ⊎ (getD (reached b u) p false ≡ true) → Path b u v
+      by-last-edge p i (inl e) = edge (record { there = l; from = subst (λ (x : ℕ). In x (edgesInto b v)) (eqb-true p u e) i })
+      by-last-edge p i (inr h) = on (ih p (edges-below b A p v i) h) (record { there = l; from = i })
 
-  below : (k v : ℕ) → v < k → v < nodes b → getD (reached b u) v false ≡ true → Path b u v
-  below zero v h l t = absurd (omega arith)
-  below (suc k) v h l t = step v l (λ p o. below k p (omega arith) (omega arith)) t
+  path-below : (k v : ℕ) → v < k → v < nodes b → getD (reached b u) v false ≡ true → Path b u v
+  path-below zero v h l t = absurd (omega arith)
+  path-below (suc k) v h l t = step v l (λ p o. path-below k p (omega arith) (omega arith)) t
 
   -- WHAT IS REACHED HAS A PATH
   pub reached-path : (v : ℕ) → v < nodes b → getD (reached b u) v false ≡ true → Path b u v
-  reached-path v l t = below (suc v) v (omega arith) l t
+  reached-path v l t = path-below (suc v) v (omega arith) l t
 
   hit : (p v : ℕ) → v < nodes b → In p (edgesInto b v) → from-u p ≡ true → getD (reached b u) v false ≡ true
   hit p v l i h = reached-is v l ∙ any-in from-u (edgesInto b v) p i h
 
 -- AND WHAT HAS A PATH IS REACHED
-pub path-reached : (b : Block) (A : Ranges b) (u v : ℕ) → v < nodes b → Path b u v → getD (reached b u) v false ≡ true
-path-reached b A u v l (edge i) = hit b A u u v l i (or-first (eqb u u) _ (eq-eqb u u refl))
-path-reached b A u v l (on {x = x} p i) =
-    hit b A u x v l i (or-second (eqb x u) _ (path-reached b A u x (omega (arith, edges-below b A x v i)) p))
+pub path-reached : (b : Block) (A : Ranges b) (u v : ℕ) → Path b u v → getD (reached b u) v false ≡ true
+path-reached b A u v (edge i) = hit b A u u v (i .there) (i .from) (or-first (eqb u u) _ (eq-eqb u u refl))
+path-reached b A u v (on {x = x} p i) = hit b A u x v (i .there) (i .from) (or-second (eqb x u) _ (path-reached b A u x p))
+
+-- and leads to a node of the block
+pub path-there : (b : Block) (u v : ℕ) → Path b u v → v < nodes b
+path-there b u v (edge i) = i .there
+path-there b u v (on p i) = i .there
 
 -- a path leads up in node order
 pub path-up : (b : Block) (A : Ranges b) (u v : ℕ) → Path b u v → u < v
-path-up b A u v (edge i) = edges-below b A u v i
-path-up b A u v (on {x = x} p i) = omega (arith, path-up b A u x p, edges-below b A x v i)
+path-up b A u v (edge i) = edges-below b A u v (i .from)
+path-up b A u v (on {x = x} p i) = omega (arith, path-up b A u x p, edges-below b A x v (i .from))
 
 -- ---- the table of paths between EX nodes has exactly those that there are
 module _ (b : Block) (A : Ranges b) (i j : ℕ) (hi : i < b .n) (hj : j < b .n) where
@@ -74,15 +78,9 @@ module _ (b : Block) (A : Ranges b) (i j : ℕ) (hi : i < b .n) (hj : j < b .n) 
   paths-path t = reached-path b A (node EX i) (node EX j) (omega arith) (sym paths-at ∙ t)
 
   pub path-paths : Path b (node EX i) (node EX j) → has (paths b) i j ≡ true
-  path-paths p = paths-at ∙ path-reached b A (node EX i) (node EX j) (omega arith) p
+  path-paths p = paths-at ∙ path-reached b A (node EX i) (node EX j) p
 
--- ---- two instructions contend, in the words of the rule
-pub record Contends (b : Block) (i j : ℕ) : Type 0 where
-  pub two : i ≡ j → ⊥
-  pub kinds : entry b i .kind ≡ entry b j .kind
-  pub no-path : Path b (node EX i) (node EX j) → ⊥
-  pub no-path-back : Path b (node EX j) (node EX i) → ⊥
-
+-- ---- the contending pairs
 pub contending-at : (b : Block) (i j : ℕ) → i < b .n → j < b .n → has (contending b) i j ≡ contend b (paths b) i j
 unfolding contending
 contending-at b = has-pairs (b .n) (contend b (paths b))

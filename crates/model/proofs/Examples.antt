@@ -1,21 +1,23 @@
--- The definitions computed: a block of sixteen instructions that takes three rounds, the two tables of block B, states that
--- are fit or not, one cycle. Assumes nothing.
+-- The definitions computed: a block of sixteen instructions that takes three rounds, the two tables of block B, an edge that
+-- isn't there, states that are fit or not, one cycle. Assumes nothing.
 use Prim.Native.Nat.{ℕ}
 use mathlib.Core.Path.{_≡_, refl}
 use mathlib.Core.Bool.{true, false}
 use mathlib.Core.List.{List, [], _∷_}
+use native.Mathlib.Omega.{arith}
 use lib.ListN.{replicate, set}
 use Rattle.lists.specs.Lists.{tab, tabFrom, least, leastFrom, exists, numbersWhere, numbersWhereFrom, inOrder, joined}
 use Rattle.lists.specs.Sums.{largest, sum, none, any, all}
 use Rattle.record.specs.Layout.{noEntry}
 use Rattle.record.specs.declared.Block.{Block}
 use Rattle.record.specs.declared.Entry.{Entry}
-use Rattle.model.specs.Nodes.{latency, lowest, highest, chosen, finishEdges, lastWriter, source, sources, orderEdges, into, finishInto, orderInto}
-use Rattle.model.specs.Paths.{edgesInto, reached, pairs, count, paths, contend, contending}
+use Rattle.model.specs.Nodes.{IF, node, latency, lowest, highest, chosen, finishEdges, lastWriter, source, sources, orderEdges, into, finishInto, orderInto}
+use Rattle.model.specs.Paths.{edgesInto, Path, reached, pairs, count, paths, contend, contending}
 use Rattle.model.specs.Cycles.{State, notStarted, started, unfit, finish, ready, runs, units, free, begins, turns, cycle, firstState, allStarted, playOn, play, playLength, threeTimes, playTable}
-use Rattle.model.specs.Rounds.{earliest, R, rival, B, behind, latestEX, latestStart, round, apart, new, roundsFrom, pairCount, windows, roundCount, apartCount, bound, windowTable}
+use Rattle.model.specs.Rounds.{earliest, R, rival, latestEX, latestStart, round, apart, new, roundsFrom, pairCount, windows, roundCount, apartCount, bound, windowTable}
 use Rattle.model.specs.Blocks.{blockA, blockB, blockE}
-use Rattle.model.proofs.WorkedResults.{summary}
+use Rattle.model.specs.Worked.{summary}
+use Rattle.model.proofs.Contention.{path-there}
 
 -- kind, lo, hi, register written, registers read
 abbrev does : ℕ → ℕ → ℕ → ℕ → ℕ → ℕ → Entry
@@ -53,7 +55,7 @@ sixteen = record {
 
 -- bound, rounds, pairs, apart
 pub sixteen-summary : summary sixteen ≡ 50 ∷ 3 ∷ 25 ∷ 7 ∷ []
-unfolding sixteen summary tab tabFrom numbersWhere numbersWhereFrom inOrder largest sum none any latency lowest highest finishEdges lastWriter source sources orderEdges into finishInto orderInto edgesInto reached pairs count paths contend contending finish ready earliest R rival B behind latestEX latestStart round apart new roundsFrom pairCount windows roundCount apartCount bound
+unfolding sixteen summary tab tabFrom numbersWhere numbersWhereFrom inOrder largest sum none any latency lowest highest finishEdges lastWriter source sources orderEdges into finishInto orderInto edgesInto reached pairs count paths contend contending finish ready earliest R rival latestEX latestStart round apart new roundsFrom pairCount windows roundCount apartCount bound
 sixteen-summary = refl
 
 -- the play of all the highest latencies is shorter than the bound
@@ -68,7 +70,7 @@ pub windowsB : windowTable blockB
     ∷ 2 ∷ 2 ∷ 3 ∷ 2 ∷ 2 ∷ 6
     ∷ 3 ∷ 3 ∷ 4 ∷ 6 ∷ 6 ∷ 7
     ∷ 4 ∷ 4 ∷ 5 ∷ 7 ∷ 7 ∷ 8 ∷ []
-unfolding windowTable threeTimes joined tab tabFrom numbersWhere numbersWhereFrom inOrder largest sum none any latency lowest highest finishEdges lastWriter source sources orderEdges into finishInto orderInto edgesInto reached pairs count paths contend contending finish ready earliest R rival B behind latestEX latestStart round apart new roundsFrom windows blockB
+unfolding windowTable threeTimes joined tab tabFrom numbersWhere numbersWhereFrom inOrder largest sum none any latency lowest highest finishEdges lastWriter source sources orderEdges into finishInto orderInto edgesInto reached pairs count paths contend contending finish ready earliest R rival latestEX latestStart round apart new roundsFrom windows blockB
 windowsB = refl
 
 pub playB : playTable blockB (chosen blockB (3 ∷ []))
@@ -80,12 +82,22 @@ pub playB : playTable blockB (chosen blockB (3 ∷ []))
 unfolding playTable threeTimes joined least leastFrom exists numbersWhere numbersWhereFrom largest all latency chosen finishEdges lastWriter source sources orderEdges into finishInto orderInto started finish ready runs units free begins turns cycle firstState allStarted playOn play blockB
 playB = refl
 
+-- ---- "An edge to an instruction beyond n isn't there.": block A has one instruction, and no path leads to a second
+pub none-beyond : Path blockA (node IF 0) (node IF 1) → ⊥
+unfolding blockA
+none-beyond p = omega (arith, path-there blockA (node IF 0) (node IF 1) p)
+
 -- ---- states of block A, which has nodes 0 to 4
 abbrev state : ℕ → List ℕ → State
 state t s = record { t = t; starts = s }
 
 abbrev fresh : List ℕ
 fresh = replicate 300 notStarted
+
+-- a node that the list does not have has not started
+pub none-there : started (set fresh 0 0) 300 ≡ false
+unfolding started
+none-there = refl
 
 -- nothing started, in any cycle up to 30,779
 pub fresh-fit : unfit blockA (state 30779 fresh) ≡ false

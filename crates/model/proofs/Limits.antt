@@ -1,6 +1,6 @@
 -- No time of instruction i, earliest or latest, exceeds 513 (i + 1): each node has a limit for its ready time and one for
 -- its finish, and no node's finish limit is above a later node's ready limit. Assumes nothing.
-use Prim.Native.Nat.{ℕ, zero, suc, _+_, _-_, _*_, _≤_, _<_}
+use Prim.Native.Nat.{ℕ, zero, suc, _+_, _-_, _*_, _≤_, _<_, min, max}
 use mathlib.Core.Path.{_≡_, ap}
 use mathlib.Core.Bool.{Bool, true, false}
 use mathlib.Core.List.{List, map}
@@ -18,7 +18,7 @@ use Rattle.record.proofs.AcceptedRanges.{Ranges}
 use Rattle.model.specs.Nodes.{EX, CM, nodes, node, stage, instruction, isEX, entry, latency, lowest, highest, finishInto, orderInto}
 use Rattle.model.specs.Paths.{Pairs, contending}
 use Rattle.model.specs.Cycles.{start, finish, ready}
-use Rattle.model.specs.Rounds.{earliest, R, rival, B, behind, latestEX, latestStart, round, windows, bound}
+use Rattle.model.specs.Rounds.{earliest, R, rival, latestEX, latestStart, round, windows, bound}
 use Rattle.model.proofs.Predecessors.{finish-below, order-below}
 use Rattle.model.proofs.Latencies.{latency-mono}
 use Rattle.model.proofs.TimesInOrder.{earliest-is, round-is}
@@ -107,13 +107,14 @@ latency-most : (x v : ℕ) → x ≤ 255 → latency x v ≤ most (isEX v)
 unfolding latency
 latency-most x v h = latency-mono x 255 v h
 
-B-most : (r : ℕ) (his : List ℕ) → largest his ≤ 255 → B r his ≤ r + 254
-unfolding B
-B-most r his h = by-test (none his) (λ e. rw e (omega arith)) (λ e. rw e (omega arith))
+-- what the later ones add, and what the earlier ones leave of it
+B-most : (none-later : Bool) (r x : ℕ) → x ≤ 255 → pick none-later r (r + x - 1) ≤ r + 254
+B-most true r x h = omega arith
+B-most false r x h = omega arith
 
-behind-most : (p m : ℕ) (his fs : List ℕ) → p ≤ m → largest fs ≤ m → behind p his fs ≤ m
-unfolding behind
-behind-most p m his fs h g = by-test (none his) (λ e. rw e h) (λ e. rw e (omega arith))
+smaller-most : (none-earlier : Bool) (p m x y : ℕ) → p ≤ m → y ≤ m → pick none-earlier p (min (p + x) (max p y)) ≤ m
+smaller-most true p m x y h g = h
+smaller-most false p m x y h g = omega arith
 
 module _ (b : Block) (A : Ranges b) where
   -- no ready time is above the finishes before it
@@ -161,8 +162,8 @@ module _ (b : Block) (A : Ranges b) (cap : (i : ℕ) → entry b i .hi ≤ 255) 
       let z = in-map (λ j. finish (highest b) s (node EX j)) x (numbersWhere 0 i (rivals i)) m in
       let l : node EX (z .0) < v = omega (arith, numbersWhere-in (rivals i) 0 i (z .0) (z .1) .1) in
       omega (arith, z .2, ih (node EX (z .0)) l, limits-grow (node EX (z .0)) v l)) in
-      let p = B-most (ready b (highest b) s v) (map (λ j. highest b (node EX j)) (numbersWhere (i + 1) (b .n) (rivals i))) his in
-      behind-most _ (readyLimit v + 254) _ _ (omega (arith, p, r)) (omega (arith, fs))
+      let p = B-most (none (numbersWhere (i + 1) (b .n) (rivals i))) (ready b (highest b) s v) _ his in
+      smaller-most (none (numbersWhere 0 i (rivals i))) _ (readyLimit v + 254) _ _ (omega (arith, p, r)) (omega (arith, fs))
 
   start-most : (rivals : ℕ → ℕ → Bool) (s : List ℕ) (v : ℕ) → ((u : ℕ) → u < v → finish (highest b) s u ≤ finishLimit u)
       → latestStart b rivals s v ≤ readyLimit v + late (isEX v)

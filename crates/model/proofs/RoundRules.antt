@@ -8,7 +8,7 @@ use mathlib.Core.Logic.{_⊎_, inl, inr}
 use native.Mathlib.Omega.{arith}
 use lib.Dec.{leb}
 use borrow.Author.Tests.{leb-true, le-leb}
-use Rattle.lists.specs.Lists.{In, numbersWhere}
+use Rattle.lists.specs.Lists.{In, pick, numbersWhere}
 use Rattle.lists.specs.Sums.{largest, sum, none}
 use Rattle.lists.proofs.Bools.{or-cases, or-first, or-second}
 use Rattle.lists.proofs.Members.{in-map}
@@ -17,19 +17,21 @@ use Rattle.record.specs.declared.Block.{Block}
 use Rattle.record.proofs.AcceptedRanges.{Ranges}
 use Rattle.model.specs.Nodes.{EX, nodes, node, highest}
 use Rattle.model.specs.Cycles.{start, finish}
-use Rattle.model.specs.Rounds.{B, behind, latestEX, apart}
+use Rattle.model.specs.Rounds.{latestEX, apart}
 use Rattle.model.proofs.Latencies.{lowest-some, lowest-highest}
 
 -- ---- the latest start of an EX
-pub B-short : (r : ℕ) (xs : List ℕ) → ((x : ℕ) → In x xs → 1 ≤ x) → B r xs ≡ r + (max (largest xs) 1 - 1)
-unfolding B none largest
-B-short r [] h = omega arith
-B-short r (x ∷ xs) h = omega (arith, h x (inl refl))
+pub B-short : (r : ℕ) (f : ℕ → ℕ) (later : List ℕ) → ((x : ℕ) → In x (map f later) → 1 ≤ x)
+    → pick (none later) r (r + largest (map f later) - 1) ≡ r + (max (largest (map f later)) 1 - 1)
+unfolding none largest
+B-short r f [] h = omega arith
+B-short r f (x ∷ xs) h = omega (arith, h (f x) (inl refl))
 
-pub behind-short : (p : ℕ) (f g : ℕ → ℕ) (es : List ℕ) → behind p (map f es) (map g es) ≡ min (p + sum (map f es)) (max p (largest (map g es)))
-unfolding behind none sum largest
-behind-short p f g [] = omega arith
-behind-short p f g (e ∷ es) = refl
+pub smaller-short : (p : ℕ) (f g : ℕ → ℕ) (earlier : List ℕ)
+    → pick (none earlier) p (min (p + sum (map f earlier)) (max p (largest (map g earlier)))) ≡ min (p + sum (map f earlier)) (max p (largest (map g earlier)))
+unfolding none sum largest
+smaller-short p f g [] = omega arith
+smaller-short p f g (e ∷ es) = refl
 
 module _ (b : Block) where
   -- the highest latencies of the EX of these instructions, and their finishes in s
@@ -62,8 +64,8 @@ module _ (b : Block) (A : Ranges b) where
         ≡ min (r + held b after + sum (highs b before)) (max (r + held b after) (largest (ends b s before)))
     unfolding latestEX
     EX-short =
-        behind-short (B r (highs b after)) (λ j. highest b (node EX j)) (λ j. finish (highest b) s (node EX j)) before
-        ∙ rw (B-short r (highs b after) some) refl
+        smaller-short (pick (none after) r (r + largest (highs b after) - 1)) (λ j. highest b (node EX j)) (λ j. finish (highest b) s (node EX j)) before
+        ∙ rw (B-short r (λ j. highest b (node EX j)) after some) refl
 
 -- ---- apart
 module _ (b : Block) (early late : List ℕ) (i j : ℕ) where
@@ -79,11 +81,11 @@ module _ (b : Block) (early late : List ℕ) (i j : ℕ) where
 
   pub apart-clear : apart b early late i j ≡ true → Clear
   unfolding apart
-  apart-clear t = go (or-cases first second t)
+  apart-clear t = either (or-cases first second t)
     where
-      go : (first ≡ true) ⊎ (second ≡ true) → Clear
-      go (inl e) = inl (leb-true _ _ e)
-      go (inr e) = inr (leb-true _ _ e)
+      either : (first ≡ true) ⊎ (second ≡ true) → Clear
+      either (inl e) = inl (leb-true _ _ e)
+      either (inr e) = inr (leb-true _ _ e)
 
   pub clear-apart : Clear → apart b early late i j ≡ true
   unfolding apart

@@ -22,9 +22,9 @@ notStarted = 65535
 abbrev pub start : List ℕ → ℕ → ℕ
 start s v = getD s v 0
 
--- node v has started
+-- node v has started: it is one of the list's, and its number there is a start
 unfoldable pub started : List ℕ → ℕ → Bool
-started s v = not (eqb (start s v) notStarted)
+started s v = ltb v (length s) && not (eqb (start s v) notStarted)
 
 -- "start + latency" of node v, lat giving each node its latency
 unfoldable pub finish : (ℕ → ℕ) → List ℕ → ℕ → ℕ
@@ -42,11 +42,11 @@ unfit b p =
 unfoldable pub runs : (ℕ → ℕ) → ℕ → List ℕ → ℕ → Bool
 runs lat t s j = started s (node EX j) && leb (start s (node EX j)) t && ltb t (finish lat s (node EX j))
 
--- how many units of kind k there are
+-- how many units of kind k there are: one unit of each kind in this build
 unfoldable pub units : Block → ℕ → ℕ
 units b k = 1
 
--- "no EX of its kind has start ≤ t < start + latency": of kind k fewer run than it has units, which is one
+-- "no EX of its kind has start ≤ t < start + latency": fewer of kind k run than there are units of it
 unfoldable pub free : Block → (ℕ → ℕ) → ℕ → List ℕ → ℕ → Bool
 free b lat t s k = ltb (length (numbersWhere 0 (b .n) (λ j. eqb (entry b j .kind) k && runs lat t s j))) (units b k)
 

@@ -61,7 +61,7 @@ highest b v = latency (entry b (instruction v) .hi) v
 unfoldable pub chosen : Block → List ℕ → ℕ → ℕ
 chosen b l v = latency (getD l (instruction v) 0) v
 
--- "An edge to an instruction beyond n isn't there.": the nodes of a block are those below this number
+-- "Each instruction has nodes": those of a block are the numbers below this one
 abbrev pub nodes : Block → ℕ
 nodes b = 5 * b .n
 
@@ -71,7 +71,7 @@ pub record Edges : Type 0 where
   pub to : ℕ
   pub far : ℕ
 
--- the same, in one line
+-- the same, written short
 abbrev pub edges : ℕ → ℕ → ℕ → Edges
 edges g h k = record { from = g; to = h; far = k }
 

@@ -1,5 +1,7 @@
--- "Nodes and edges", its end: paths, and which EX nodes contend.
-use Prim.Native.Nat.{ℕ}
+-- "Nodes and edges", its end: paths, and which EX nodes contend. What is computed is tied to what is said by four theorems in
+-- proofs/Contention: reached-path, path-reached, contending-contends, contends-contending.
+use Prim.Native.Nat.{ℕ, _<_}
+use mathlib.Core.Path.{_≡_}
 use mathlib.Core.Bool.{Bool, false, not, _&&_, _||_}
 use mathlib.Core.List.{List, [], _++_}
 use lib.ListN.{length, getD}
@@ -13,12 +15,17 @@ use Rattle.model.specs.Nodes.{EX, nodes, node, entry, finishInto, orderI
 unfoldable pub edgesInto : Block → ℕ → List ℕ
 edgesInto b v = finishInto b v ++ orderInto b v
 
+-- "An edge to an instruction beyond n isn't there.": an edge from node u to node v of the block
+pub record Edge (b : Block) (u v : ℕ) : Type 0 where
+  pub there : v < nodes b
+  pub from : In u (edgesInto b v)
+
 -- a path: an edge, or a path and an edge after it
 pub data Path (b : Block) : ℕ → ℕ → Type 0 where
-  edge : {u v : ℕ} → In u (edgesInto b v) → Path b u v
-  on : {u x v : ℕ} → Path b u x → In x (edgesInto b v) → Path b u v
+  edge : {u v : ℕ} → Edge b u v → Path b u v
+  on : {u x v : ℕ} → Path b u x → Edge b x v → Path b u v
 
--- the same computed in node order: of each node, whether a path leads to it from u
+-- the same computed in node order: of each node, whether a path leads to it from u (reached-path, path-reached)
 unfoldable pub reached : Block → ℕ → List Bool
 reached b u = inOrder (λ before v. any (λ p. eqb p u || getD before p false) (edgesInto b v)) (nodes b)
 
@@ -42,11 +49,18 @@ count n p = sum (tab n (λ j. length (numbersWhere 0 j (λ i. p i j))))
 unfoldable pub paths : Block → Pairs
 paths b = tab (b .n) (λ i. let r = reached b (node EX i) in tab (b .n) (λ j. getD r (node EX j) false))
 
--- "Two EX nodes contend if their kinds are equal and no path leads from one to the other.", m having the paths. "distance
--- below W, then follows": contend-near
+-- "Two EX nodes contend if their kinds are equal and no path leads from one to the other.": those of instructions i and j.
+-- "distance below W, then follows": contend-near
+pub record Contends (b : Block) (i j : ℕ) : Type 0 where
+  pub two : i ≡ j → ⊥
+  pub kinds : entry b i .kind ≡ entry b j .kind
+  pub no-path : Path b (node EX i) (node EX j) → ⊥
+  pub no-path-back : Path b (node EX j) (node EX i) → ⊥
+
+-- the same computed, m having the paths
 unfoldable pub contend : Block → Pairs → ℕ → ℕ → Bool
 contend b m i j = not (eqb i j) && eqb (entry b i .kind) (entry b j .kind) && not (has m i j) && not (has m j i)
 
--- the contending pairs
+-- the contending pairs: those of which Contends holds (contending-contends, contends-contending)
 unfoldable pub contending : Block → Pairs
 contending b = let m = paths b in pairs (b .n) (contend b m)

@@ -20,26 +20,21 @@ earliest b = inOrder (ready b (lowest b)) (nodes b)
 unfoldable pub R : Block → List ℕ → ℕ → ℕ
 R b s v = ready b (highest b) s v
 
--- "consider contenders not apart from it": con has the contending pairs, known those known to be apart
+-- "contenders not apart from it": con has the contending pairs, known those known to be apart
 unfoldable pub rival : Pairs → Pairs → ℕ → ℕ → Bool
 rival con known i j = has con i j && not (has known i j)
 
--- "B = R, or R + (largest hi of the later ones) − 1 if there are later ones."
-unfoldable pub B : ℕ → List ℕ → ℕ
-B r his = pick (none his) r (r + largest his - 1)
-
--- "With earlier ones, latest start is the smaller of B + (sum of their hi) and the larger of B and their largest latest
--- finish; with none it is B."
-unfoldable pub behind : ℕ → List ℕ → List ℕ → ℕ
-behind p his finishes = pick (none his) p (min (p + sum his) (max p (largest finishes)))
-
--- the latest start of EX(i), from its R
+-- "For EX, consider contenders not apart from it. B = R, or R + (largest hi of the later ones) − 1 if there are later ones.
+-- With earlier ones, latest start is the smaller of B + (sum of their hi) and the larger of B and their largest latest
+-- finish; with none it is B.": the latest start of EX(i), r being its R and s having the latest starts before it
 unfoldable pub latestEX : Block → (ℕ → ℕ → Bool) → List ℕ → ℕ → ℕ → ℕ
 latestEX b rivals s i r =
     let earlier = numbersWhere 0 i (rivals i) in
     let later = numbersWhere (i + 1) (b .n) (rivals i) in
     let his : List ℕ → List ℕ = map (λ j. highest b (node EX j)) in
-    behind (B r (his later)) (his earlier) (map (λ j. finish (highest b) s (node EX j)) earlier)
+    let finishes : List ℕ → List ℕ = map (λ j. finish (highest b) s (node EX j)) in
+    let B = pick (none later) r (r + largest (his later) - 1) in
+    pick (none earlier) B (min (B + sum (his earlier)) (max B (largest (finishes earlier))))
 
 -- "Off EX, latest start is R and finish R + 1. For EX, ..": "Latest finish adds hi."
 unfoldable pub latestStart : Block → (ℕ → ℕ → Bool) → List ℕ → ℕ → ℕ

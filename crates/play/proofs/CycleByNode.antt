@@ -5,7 +5,7 @@ use mathlib.Core.Bool.{Bool, true, false, not, _&&_, and-false}
 use mathlib.Core.List.{List}
 use native.Mathlib.Numerals.{add-one}
 use lib.ListN.{length, getD, set, length-set}
-use borrow.Author.Tests.{le-leb, lt-leb, lt-ltb, eq-eqb, ne-eqb}
+use borrow.Author.Tests.{le-leb, lt-leb, lt-ltb, ne-eqb}
 use Rattle.lists.specs.Lists.{pick}
 use Rattle.lists.proofs.Bools.{by-test, and-right}
 use Rattle.record.specs.declared.Block.{Block}
@@ -17,6 +17,7 @@ use Rattle.play.specs.inside.NodeTurn.{stageReady, fromWhen, ended, can}
 use Rattle.play.specs.inside.PlayFacts.{Chosen, Timed, Units}
 use Rattle.play.proofs.NodeTest.{begins-can}
 use Rattle.play.proofs.UnitsHeld.{timed-start, units-start}
+use Rattle.schedules.proofs.CycleTurns.{started-is, unstarted}
 
 -- ---- stage g of instruction i in cycle t: x and y are its sources, l is the latency of its EX, its unit is free from e on
 module _ (h : Shape) (x y l e t : ℕ) (s : List ℕ) (i g : ℕ) where
@@ -24,9 +25,8 @@ module _ (h : Shape) (x y l e t : ℕ) (s : List ℕ) (i g : ℕ) where
   abbrev pub starts : Bool
   starts = not (started s (node g i)) && can h x y l e t s i g
 
-  pub starts-not : (start s (node g i) ≡ notStarted → ⊥) → starts ≡ false
-  unfolding started
-  starts-not n = rw (ne-eqb (start s (node g i)) notStarted n) refl
+  pub starts-not : node g i < length s → (start s (node g i) ≡ notStarted → ⊥) → starts ≡ false
+  starts-not l n = rw (started-is s (node g i) l, ne-eqb (start s (node g i)) notStarted n) refl
 
   module _ (r f : ℕ) (is : r ≡ stageReady h x y l s i g) (from : f ≡ fromWhen g r e) where
     pub starts-later : t < f → starts ≡ false
@@ -34,8 +34,8 @@ module _ (h : Shape) (x y l e t : ℕ) (s : List ℕ) (i g : ℕ) where
     starts-later m = rw (← is, ← from, lt-leb f t m, and-false, and-false) refl
 
     pub starts-now : g < 5 → start s (node g i) ≡ notStarted → f ≤ t → starts ≡ true
-    unfolding started can
-    starts-now k n m = rw (eq-eqb (start s (node g i)) notStarted n, lt-ltb g 5 k, ← is, ← from, le-leb f t m) refl
+    unfolding can
+    starts-now k n m = rw (unstarted s (node g i) n, lt-ltb g 5 k, ← is, ← from, le-leb f t m) refl
 
 -- ---- the turns of the nodes before v
 pub record Passed (b : Block) (lat : ℕ → ℕ) (t : ℕ) (s₀ : List ℕ) (v : ℕ) (s ends : List ℕ) : Type 0 where

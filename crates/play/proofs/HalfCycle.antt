@@ -61,6 +61,7 @@ module _ (b : Block) (h : Shape) (s1 s2 : List ℕ) (U : Unpacked b h s1 s2) (ki
         long = R .long;
         timed = record {
           now = now;
+          long = R .long;
           each = λ v. by-test (ltb v 300)
               (λ y. ⊎-elim (λ q. inl (omega arith)) (λ q. inr q) (R .each v (ltb-true v 300 y)))
               (λ n. inl (omega (arith, List·getD-eq-default s 0 {n = v} (omega (arith, R .long, ltb-false v 300 n)))));

@@ -3,7 +3,7 @@ use Prim.Native.Nat.{ℕ, _+_, _<_, max}
 use mathlib.Core.Path.{_≡_, refl, sym, ap, _∙_}
 use mathlib.Core.Bool.{Bool, true, false, not, _&&_, _||_, and-true}
 use mathlib.Core.List.{List, [], _∷_, map}
-use mathlib.Core.Logic.{⊎-elim}
+use mathlib.Core.Logic.{⊎-elim, inl, inr}
 use native.Mathlib.Omega.{arith}
 use lib.Dec.{leb, eqb}
 use lib.ListN.{getD}
@@ -11,13 +11,17 @@ use borrow.Author.Tests.{le-leb, lt-leb, leb-true, leb-false, lt-ltb, eq-eqb, ne
 use Rattle.lists.specs.Sums.{largest, all}
 use Rattle.lists.proofs.Bools.{by-test, each, _▹_, end}
 use Rattle.record.specs.declared.Block.{Block}
-use Rattle.model.specs.Nodes.{EX, node, instruction, isEX, entry, chosen, finishInto, orderInto}
+use Rattle.model.specs.Nodes.{EX, node, instruction, isEX, entry, chosen, finishInto, orderInto, nodes}
 use Rattle.model.specs.Cycles.{notStarted, start, started, finish, free, begins, ready}
 use Rattle.unpacked.specs.inside.UnpackedBlock.{Unpacked}
 use Rattle.unpacked.specs.declared.Shape.{Shape}
 use Rattle.unpacked.proofs.ReadyTimes.{stage-node, instruction-node, chosen-one, chosen-EX, ready-IF, ready-ID, ready-EX, ready-WB, ready-CM}
 use Rattle.play.specs.inside.NodeTurn.{stageReady, fromWhen, can}
 use Rattle.play.specs.inside.PlayFacts.{Chosen, Timed, Units}
+use Rattle.lists.specs.Lists.{In}
+use Rattle.record.proofs.AcceptedRanges.{Ranges, ranges}
+use Rattle.model.proofs.Predecessors.{finish-below, order-below}
+use Rattle.schedules.proofs.CycleTurns.{started-is}
 
 -- ---- tests of times
 pub both-le : (x y t : ℕ) → (leb x t && leb y t) ≡ leb (max x y) t
@@ -29,10 +33,10 @@ both-le x y t =
     (λ f. rw (e, f) (sym (lt-leb (max x y) t (omega (arith, leb-false y t f))))))
     (λ e. rw e (sym (lt-leb (max x y) t (omega (arith, leb-false x t e)))))
 
-all-le : (p : ℕ → Bool) (f : ℕ → ℕ) (t : ℕ) → ((u : ℕ) → p u ≡ leb (f u) t) → (xs : List ℕ) → all p xs ≡ leb (largest (map f xs)) t
+all-le : (p : ℕ → Bool) (f : ℕ → ℕ) (t : ℕ) (xs : List ℕ) → ((u : ℕ) → In u xs → p u ≡ leb (f u) t) → all p xs ≡ leb (largest (map f xs)) t
 unfolding all largest
-all-le p f t h [] = sym (le-leb 0 t (omega arith))
-all-le p f t h (x ∷ xs) = rw (h x, all-le p f t h xs) (both-le (f x) (largest (map f xs)) t)
+all-le p f t [] h = sym (le-leb 0 t (omega arith))
+all-le p f t (x ∷ xs) h = rw (h x (inl refl), all-le p f t xs (λ u i. h u (inr i))) (both-le (f x) (largest (map f xs)) t)
 
 and-four : (x y z o : Bool) → (x && y && z && o) ≡ (x && ((y && z) && o))
 and-four true y z o = refl
@@ -41,40 +45,40 @@ and-four false y z o = refl
 -- ---- a node in cycle t
 module _ (t : ℕ) (s : List ℕ) (w : Timed t s) where
   -- what has started has done so by now
-  pub started-le : (u : ℕ) → started s u ≡ leb (start s u) t
-  unfolding started
-  started-le u =
-      ⊎-elim
+  pub started-le : (u : ℕ) → u < 300 → started s u ≡ leb (start s u) t
+  started-le u l =
+      started-is s u (omega (arith, w .long))
+      ∙ ⊎-elim
       (λ h. rw (le-leb (start s u) t h, ne-eqb (start s u) notStarted (λ e. omega (arith, w .now))) refl)
       (λ e. rw (eq-eqb (start s u) notStarted e) (sym (lt-leb (start s u) t (omega (arith, w .now)))))
       (w .each u)
 
   module _ (lat : ℕ → ℕ) where
-    finished-le : (u : ℕ) → (started s u && leb (finish lat s u) t) ≡ leb (finish lat s u) t
+    finished-le : (u : ℕ) → u < 300 → (started s u && leb (finish lat s u) t) ≡ leb (finish lat s u) t
     unfolding finish
-    finished-le u =
+    finished-le u l =
         by-test (leb (start s u) t)
-        (λ e. rw (started-le u, e) refl)
-        (λ e. rw (started-le u, e) (sym (lt-leb (start s u + lat u) t (omega (arith, leb-false (start s u) t e)))))
+        (λ e. rw (started-le u l, e) refl)
+        (λ e. rw (started-le u l, e) (sym (lt-leb (start s u + lat u) t (omega (arith, leb-false (start s u) t e)))))
 
     -- all that a node waits for, but a unit
-    waits : (b : Block) (v : ℕ)
+    waits : (b : Block) (A : Ranges b) (v : ℕ) → v < nodes b
         → (all (λ u. started s u && leb (finish lat s u) t) (finishInto b v) && all (started s) (orderInto b v)) ≡ leb (ready b lat s v) t
     unfolding ready
-    waits b v =
+    waits b A v l =
         rw (
-          all-le (λ u. started s u && leb (finish lat s u) t) (finish lat s) t finished-le (finishInto b v),
-          all-le (started s) (start s) t started-le (orderInto b v),
+          all-le (λ u. started s u && leb (finish lat s u) t) (finish lat s) t (finishInto b v) (λ u i. finished-le u (omega (arith, finish-below b A u v i, A .n .1))),
+          all-le (started s) (start s) t (orderInto b v) (λ u i. started-le u (omega (arith, order-below b A u v i, A .n .1))),
         )
         (both-le (largest (map (finish lat s) (finishInto b v))) (largest (map (start s) (orderInto b v))) t)
 
     -- the model's test, by the ready time
-    begins-ready : (b : Block) (v : ℕ)
+    begins-ready : (b : Block) (A : Ranges b) (v : ℕ) → v < nodes b
         → begins b lat t s v ≡ (not (started s v) && (leb (ready b lat s v) t && (not (isEX v) || free b lat t s (entry b (instruction v) .kind))))
     unfolding begins
-    begins-ready b v =
+    begins-ready b A v l =
         and-four (not (started s v)) _ (all (started s) (orderInto b v)) _
-        ∙ ap (λ (x : Bool). not (started s v) && (x && (not (isEX v) || free b lat t s (entry b (instruction v) .kind)))) (waits b v)
+        ∙ ap (λ (x : Bool). not (started s v) && (x && (not (isEX v) || free b lat t s (entry b (instruction v) .kind)))) (waits b A v l)
 
 module _ (b : Block) (h : Shape) (s1 s2 : List ℕ) (U : Unpacked b h s1 s2) (kinds l : List ℕ) (L : Chosen b kinds l) where
   -- what the code works out is the model's ready time
@@ -98,7 +102,7 @@ module _ (b : Block) (h : Shape) (s1 s2 : List ℕ) (U : Unpacked b h s1 s2) (ki
       ≡ (not (started s (node g i)) && can h (getD s1 i 0) (getD s2 i 0) (getD l i 0) (getD ends (getD kinds i 0) 0) t s i g)
   unfolding can fromWhen
   begins-can t s ends w o i g m k =
-      begins-ready t s w (chosen b l) b (node g i)
+      begins-ready t s w (chosen b l) b (ranges b (U .accepted)) (node g i) (omega arith)
       ∙ ap (λ (x : Bool). not (started s (node g i)) && x)
       (rw (stage-node g i k, instruction-node g i k, lt-ltb g 5 k, stage-ready s i g m k)
       (by-test (eqb g EX)

@@ -21,6 +21,7 @@ use Rattle.play.specs.inside.PlayFacts.{Chosen, Running, CyclePlayed}
 use Rattle.play.proofs.QuietCycles.{Ahead, ahead-first, ahead-next, ahead-allStarted, ahead-last}
 use Rattle.play.proofs.UnitsHeld.{units-none}
 use Rattle.play.proofs.StagesStarted.{row}
+use Rattle.schedules.proofs.CycleTurns.{unstarted}
 
 -- cycle t is to come
 pub record BeforeCycle (b : Block) (lat : ℕ → ℕ) (t from : ℕ) (s stages ends : List ℕ) : Type 0 where
@@ -34,9 +35,8 @@ module _ (b : Block) (h : Shape) (s1 s2 : List ℕ) (U : Unpacked b h s1 s2) (ki
   few : b .n ≤ 60
   few = ranges b (U .accepted) .n .1
 
-  unstarted : (v : ℕ) → v < 300 → started nowhere v ≡ false
-  unfolding started
-  unstarted v m = rw (getD-replicate 300 v notStarted 0 m) refl
+  none-started : (v : ℕ) → v < 300 → started nowhere v ≡ false
+  none-started v m = unstarted nowhere v (getD-replicate 300 v notStarted 0 m)
 
   -- nothing has started
   pub cycles-first : BeforeCycle b (chosen b l) 0 0 nowhere (replicate 60 0) (replicate 4 0)
@@ -49,11 +49,11 @@ module _ (b : Block) (h : Shape) (s1 s2 : List ℕ) (U : Unpacked b h s1 s2) (ki
           counted = record {
             sixty = length-replicate {A = ℕ} 60 0;
             most = λ i. omega (arith, getD-zeros 60 i);
-            begun = λ i g m k. unstarted (node g i) (omega (arith, few)) ∙ sym (le-ltb g (getD (replicate 60 0) i 0) (omega (arith, getD-zeros 60 i)));
+            begun = λ i g m k. none-started (node g i) (omega (arith, few)) ∙ sym (le-ltb g (getD (replicate 60 0) i 0) (omega (arith, getD-zeros 60 i)));
             order = λ i j m e. getD-zeros 60 j;
             done = λ i m e. absurd (omega (arith, getD-zeros 60 i, e));
           };
-          held = units-none b h s1 s2 U kinds l L 0 nowhere (replicate 4 0) (λ v m. unstarted v (omega (arith, few))) refl;
+          held = units-none b h s1 s2 U kinds l L 0 nowhere (replicate 4 0) (λ v m. none-started v (omega (arith, few))) refl;
           few = omega arith;
           front = λ i m. absurd (omega arith);
         };

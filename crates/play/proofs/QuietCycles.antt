@@ -1,7 +1,7 @@
 -- Turns in which nothing begins, cycles that may be passed over, and the play cycle by cycle. Assumes nothing.
 use Prim.Native.Nat.{ℕ, zero, suc, _+_, _-_, _≤_, _<_}
 use mathlib.Core.Path.{_≡_, refl, sym, ap, _∙_}
-use mathlib.Core.Bool.{Bool, true, false, _&&_}
+use mathlib.Core.Bool.{Bool, true, false, _&&_, false≢true}
 use mathlib.Core.List.{List}
 use mathlib.Core.Logic.{_⊎_, ⊎-elim}
 use native.Mathlib.Omega.{arith}
@@ -16,7 +16,7 @@ use Rattle.record.proofs.AcceptedRanges.{Ranges}
 use Rattle.model.specs.Nodes.{EX, nodes, node, instruction, entry}
 use Rattle.model.specs.Cycles.{State, notStarted, start, started, finish, runs, free, begins, turns, cycle, firstState, allStarted, playOn, play}
 use Rattle.model.proofs.Predecessors.{finish-below}
-use Rattle.schedules.proofs.CycleTurns.{begins-means, means-begins, started-not}
+use Rattle.schedules.proofs.CycleTurns.{begins-means, means-begins}
 use Rattle.schedules.proofs.PlaySchedule.{allStarted-each, each-allStarted, allStarted-stays}
 
 -- ---- turns
@@ -43,7 +43,7 @@ module _ (b : Block) (lat : ℕ → ℕ) (t : ℕ) (s₀ s : List ℕ) where
 -- a node that has started does not begin again
 pub started-stays : (b : Block) (lat : ℕ → ℕ) (t : ℕ) (s : List ℕ) (v : ℕ) → started s v ≡ true → begins b lat t s v ≡ false
 started-stays b lat t s v h =
-    by-test (begins b lat t s v) (λ e. absurd (started-not s v h (begins-means b lat t s v e .waiting))) (λ e. e)
+    by-test (begins b lat t s v) (λ e. absurd (false≢true (sym (begins-means b lat t s v e .waiting) ∙ h))) (λ e. e)
 
 -- ---- cycles that may be passed over: every node that has started by t has finished by t, or finishes from x on
 module _ (b : Block) (A : Ranges b) (lat : ℕ → ℕ) (t x : ℕ) (s : List ℕ)

@@ -86,7 +86,7 @@ module _ (b : Block) (lat : ℕ → ℕ) (t : ℕ) (now : t < 30780) (s stages :
 
   started-other : (v : ℕ) → (v ≡ node g i → ⊥) → started s' v ≡ started s v
   unfolding started
-  started-other v n = rw (start-other v n) refl
+  started-other v n = rw (length-set, start-other v n) refl
 
   pub stage-own : getD stages' i 0 ≡ g + 1
   stage-own = getD-set-same stages i (g + 1) 0 (omega (arith, S .sixty))
@@ -100,7 +100,7 @@ module _ (b : Block) (lat : ℕ → ℕ) (t : ℕ) (now : t < 30780) (s stages :
       (by-test (eqb k g)
       (λ e.
       let z : k ≡ g = eqb-true k g e in
-      rw z (started-yes s' (node g i) (omega (arith, start-own)) ∙ sym (lt-ltb g (g + 1) (omega arith))))
+      rw z (started-yes s' (node g i) (omega (arith, length-set s (node g i) t)) (omega (arith, start-own)) ∙ sym (lt-ltb g (g + 1) (omega arith))))
       (λ e.
       started-other (node k i) (λ q. eqb-false k g e (omega (arith, q)))
       ∙ S .begun i k below l

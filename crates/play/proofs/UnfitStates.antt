@@ -15,6 +15,7 @@ use Rattle.model.specs.Nodes.{nodes}
 use Rattle.model.specs.Cycles.{State, notStarted, start, started, unfit}
 use Rattle.play.specs.inside.NodeTurn.{unfitAt}
 use Rattle.play.specs.inside.PlayFacts.{Timed}
+use Rattle.schedules.proofs.CycleTurns.{started-is}
 
 -- ---- tests joined
 part-first : (a b c : Bool) → (a && (b || c)) ≡ false → (a && b) ≡ false
@@ -36,28 +37,32 @@ not-both false b e = inr (not-false b e)
 abbrev late : State → ℕ → Bool
 late p v = started (p .starts) v && not (ltb (start (p .starts) v) (p .t))
 
-module _ (b : Block) (p : State) (end : ℕ) (q : end ≡ nodes b) where
+module _ (b : Block) (p : State) (long : length (p .starts) ≡ 300) (end : ℕ) (q : end ≡ nodes b) where
+  has : (v : ℕ) → v < 300 → started (p .starts) v ≡ not (eqb (start (p .starts) v) notStarted)
+  has v l = started-is (p .starts) v (omega arith)
+
   pub unfit-here : (v : ℕ) → v < 300 → unfitAt (p .t) end v (start (p .starts) v) ≡ true → unfit b p ≡ true
-  unfolding unfit unfitAt started
-  unfit-here v l t = go (or-cases (not (ltb (start (p .starts) v) (p .t))) (leb end v) (and-right (started (p .starts) v) _ t))
+  unfolding unfit unfitAt
+  unfit-here v l t = either (or-cases (not (ltb (start (p .starts) v) (p .t))) (leb end v) (and-right (not (eqb (start (p .starts) v) notStarted)) _ t))
     where
       s : started (p .starts) v ≡ true
-      s = and-left (started (p .starts) v) (not (ltb (start (p .starts) v) (p .t)) || leb end v) t
+      s = has v l ∙ and-left (not (eqb (start (p .starts) v) notStarted)) (not (ltb (start (p .starts) v) (p .t)) || leb end v) t
 
-      go : (not (ltb (start (p .starts) v) (p .t)) ≡ true) ⊎ (leb end v ≡ true) → unfit b p ≡ true
-      go (inl e) =
+      either : (not (ltb (start (p .starts) v) (p .t)) ≡ true) ⊎ (leb end v ≡ true) → unfit b p ≡ true
+      either (inl e) =
           or-first (ltb 30779 (p .t) || exists 0 300 (late p)) _
           (or-second (ltb 30779 (p .t)) _ (exists-here 0 300 (late p) v (omega arith) l (and-both (started (p .starts) v) _ s e)))
-      go (inr e) =
+      either (inr e) =
           or-second (ltb 30779 (p .t) || exists 0 300 (late p)) _
           (exists-here (nodes b) 300 (started (p .starts)) v (omega (arith, leb-true end v e)) l s)
 
   pub unfit-none : p .t ≤ 30779 → b .n ≤ 60 → ((v : ℕ) → v < 300 → unfitAt (p .t) end v (start (p .starts) v) ≡ false) → unfit b p ≡ false
-  unfolding unfit unfitAt started
+  unfolding unfit unfitAt
   unfit-none l n h =
-      let x = exists-none 0 300 (late p) (omega arith) (λ v _ g. part-first (started (p .starts) v) _ (leb end v) (h v g)) in
+      let x = exists-none 0 300 (late p) (omega arith)
+      (λ v _ g. rw (has v g) (part-first (not (eqb (start (p .starts) v) notStarted)) _ (leb end v) (h v g))) in
       let y = exists-none (nodes b) 300 (started (p .starts)) (omega arith)
-      (λ v k g. part-second (started (p .starts) v) (not (ltb (start (p .starts) v) (p .t))) (leb end v) (h v g) (le-leb end v (omega arith))) in
+      (λ v k g. has v g ∙ part-second (not (eqb (start (p .starts) v) notStarted)) (not (ltb (start (p .starts) v) (p .t))) (leb end v) (h v g) (le-leb end v (omega arith))) in
       rw (le-ltb 30779 (p .t) l, x, y) refl
 
 module _ (b : Block) (p : State) where
@@ -73,8 +78,8 @@ module _ (b : Block) (p : State) where
       omega (arith, ltb-false 30779 (p .t) (or-left (ltb 30779 (p .t)) (exists 0 300 (late p)) a))
 
   pub fit-timed : length (p .starts) ≡ 300 → unfit b p ≡ false → Timed (p .t) (p .starts)
-  unfolding unfit started
-  fit-timed l e = record { now = fit-now e; each = each }
+  unfolding unfit
+  fit-timed l e = record { now = fit-now e; long = l; each = each }
     where
       a : (ltb 30779 (p .t) || exists 0 300 (late p)) ≡ false
       a = or-left _ (exists (nodes b) 300 (started (p .starts))) e
@@ -86,5 +91,7 @@ module _ (b : Block) (p : State) where
       each : (v : ℕ) → (start (p .starts) v ≤ p .t) ⊎ (start (p .starts) v ≡ notStarted)
       each v =
           by-test (ltb v 300)
-          (λ h. seen v (not-both _ _ (exists-not 0 300 (late p) (or-right (ltb 30779 (p .t)) _ a) v (omega arith) (ltb-true v 300 h))))
+          (λ h.
+          let o = exists-not 0 300 (late p) (or-right (ltb 30779 (p .t)) _ a) v (omega arith) (ltb-true v 300 h) in
+          seen v (not-both _ _ (rw (started-is (p .starts) v (omega (arith, ltb-true v 300 h))) at o)))
           (λ h. let z : start (p .starts) v ≡ 0 = List·getD-eq-default (p .starts) 0 (omega (arith, ltb-false v 300 h)) in inl (omega arith))

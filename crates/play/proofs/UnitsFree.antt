@@ -20,6 +20,7 @@ use Rattle.play.specs.inside.PlayFacts.{Chosen, Timed, Units}
 use Rattle.unpacked.proofs.ReadyTimes.{chosen-EX}
 use Rattle.play.proofs.NodeTest.{both-le}
 use Rattle.play.proofs.UnitsHeld.{holds}
+use Rattle.schedules.proofs.CycleTurns.{started-is}
 
 -- what `Units` says, of the instructions before m alone
 pub record Before (b : Block) (lat : ℕ → ℕ) (t : ℕ) (s : List ℕ) (m : ℕ) (ends : List ℕ) : Type 0 where
@@ -49,19 +50,22 @@ not-ltb t f =
     (λ e. rw (e, le-ltb t f (leb-true f t e)) refl)
     (λ e. rw (e, lt-ltb t f (leb-false f t e)) refl)
 
-module _ (b : Block) (kinds l : List ℕ) (L : Chosen b kinds l) (t : ℕ) (s : List ℕ) (w : Timed t s) (m : ℕ) (few : m < b .n) where
+module _ (b : Block) (kinds l : List ℕ) (L : Chosen b kinds l) (t : ℕ) (s : List ℕ) (w : Timed t s) (m : ℕ) (few : m < b .n) (sixty : b .n ≤ 60) where
   abbrev x : ℕ
   x = start s (node EX m)
 
   -- m's unit is free from the end of its EX on, if it has started
   run-ended : (e t' : ℕ) → t ≤ t' → (leb e t' && not (runs (chosen b l) t' s m)) ≡ leb (pick (eqb x notStarted) e (max e (x + getD l m 0))) t'
-  unfolding runs started finish
+  unfolding runs finish
   run-ended e t' a =
       by-test (eqb x notStarted)
-      (λ q. rw (q, and-true) refl)
+      (λ q. rw (has, q, and-true) refl)
       (λ q.
       let early : x ≤ t = ⊎-elim (λ h. h) (λ h. absurd (eqb-false x notStarted q h)) (w .each (node EX m)) in
-      rw (q, le-leb x t' (omega arith), chosen-EX b l m, not-ltb t' (x + getD l m 0)) (both-le e (x + getD l m 0) t'))
+      rw (has, q, le-leb x t' (omega arith), chosen-EX b l m, not-ltb t' (x + getD l m 0)) (both-le e (x + getD l m 0) t'))
+    where
+      has : started s (node EX m) ≡ not (eqb x notStarted)
+      has = started-is s (node EX m) (omega (arith, w .long))
 
   pub before-more : (ends : List ℕ) (k r : ℕ) → k ≡ getD kinds m 0 → k ≤ 3 → r ≡ pick (eqb x notStarted) (getD ends k 0) (max (getD ends k 0) (x + getD l m 0))
       → Before b (chosen b l) t s m ends → Before b (chosen b l) t s (m + 1) (set ends k r)

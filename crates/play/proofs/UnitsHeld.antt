@@ -27,17 +27,17 @@ use Rattle.unpacked.proofs.ReadyTimes.{chosen-EX}
 -- ---- a start more
 pub timed-start : (t : ℕ) (s : List ℕ) (v : ℕ) → Timed t s → Timed t (set s v t)
 timed-start t s v w =
-    record { now = w .now; each = all-set (λ (x : ℕ). (x ≤ t) ⊎ (x ≡ notStarted)) s v t (w .each) (inl (omega arith)) }
+    record { now = w .now; long = length-set s v t ∙ w .long; each = all-set (λ (x : ℕ). (x ≤ t) ⊎ (x ≡ notStarted)) s v t (w .each) (inl (omega arith)) }
 
 runs-other : (lat : ℕ → ℕ) (t' : ℕ) (s : List ℕ) (v t j : ℕ) → (node EX j ≡ v → ⊥) → runs lat t' (set s v t) j ≡ runs lat t' s j
 unfolding runs started finish
-runs-other lat t' s v t j off = rw (getD-set-other s v (node EX j) t 0 off) refl
+runs-other lat t' s v t j off = rw (length-set, getD-set-other s v (node EX j) t 0 off) refl
 
 runs-own : (lat : ℕ → ℕ) (t' : ℕ) (s : List ℕ) (t i : ℕ) → node EX i < length s → t < notStarted → t ≤ t'
     → runs lat t' (set s (node EX i) t) i ≡ ltb t' (t + lat (node EX i))
 unfolding runs started finish
 runs-own lat t' s t i h early m =
-    rw (getD-set-same s (node EX i) t 0 h, ne-eqb t notStarted (λ e. omega arith), le-leb t t' m) refl
+    rw (length-set, lt-ltb (node EX i) (length s) h, getD-set-same s (node EX i) t 0 h, ne-eqb t notStarted (λ e. omega arith), le-leb t t' m) refl
 
 -- ---- a unit is free if no EX of its kind runs
 length-in : (x : ℕ) (xs : List ℕ) → In x xs → 1 ≤ length xs
@@ -88,9 +88,9 @@ module _ (b : Block) (lat : ℕ → ℕ) (t : ℕ) (s : List ℕ) (early : t < n
       k = entry b i .kind
 
       quiet : (j : ℕ) → j < b .n → t + lat (node EX i) ≤ t' → holds b lat t' (set s (node EX i) t) k j ≡ false
-      quiet j l allStarted =
+      quiet j l done =
           by-test (eqb j i)
-          (λ e. rw (eqb-true j i e, runs-own lat t' s t i long early m, le-ltb t' (t + lat (node EX i)) allStarted, and-false) refl)
+          (λ e. rw (eqb-true j i e, runs-own lat t' s t i long early m, le-ltb t' (t + lat (node EX i)) done, and-false) refl)
           (λ e. rw (runs-other lat t' s (node EX i) t j (λ q. eqb-false j i e (omega arith))) (none-free b lat t' s k f j l))
 
 module _ (b : Block) (h : Shape) (s1 s2 : List ℕ) (U : Unpacked b h s1 s2) (kinds l : List ℕ) (L : Chosen b kinds l) where

@@ -8,7 +8,7 @@ use lib.Dec.{leb, ltb, eqb}
 use borrow.Author.Tests.{lt-ltb, ltb-false, leb-true, not-false}
 use Rattle.lists.proofs.Least.{least-below}
 use Rattle.lists.proofs.Bools.{or-left, or-right, and-left, and-right}
-use Rattle.record.specs.Rules.{lows, highs, outside, kind, register, used, rule, broken}
+use Rattle.record.specs.Rules.{headerTable, lows, highs, outside, kind, register, used, rule, broken}
 use Rattle.record.specs.Layout.{noEntry, headBytes, entryBytes, byteOf, encoded}
 use Rattle.record.specs.Refusals.{blockVerdict}
 use Rattle.record.specs.declared.Block.{Block}
@@ -58,7 +58,7 @@ module _ (b : Block) (z : blockVerdict b ≡ (0, 0)) where
       record { kind = u .0; lo = u .1; hi = u .2 }
 
   pub ranges : Ranges b
-  unfolding outside headBytes lows highs
+  unfolding outside headBytes headerTable lows highs
   ranges =
       let n = in-range 1 60 (b .n) (header 4 (omega arith) (omega arith)) in
       record {

@@ -15,7 +15,7 @@ use Rattle.lists.proofs.JoinedPieces.{put-next, piecesIn, pieces-none, pieces-m
 use Rattle.lists.proofs.Little.{length-bytes}
 use Rattle.lists.proofs.Bools.{by-test, end, _▹_, each}
 use Rattle.record.specs.Check.{checkOf}
-use Rattle.record.specs.Rules.{lows, highs, outside, broken}
+use Rattle.record.specs.Rules.{headerTable, lows, highs, outside, broken}
 use Rattle.record.specs.Layout.{noEntry, headBytes, entryBytes, entriesBytes, body, encoded}
 use Rattle.record.specs.Refusals.{Test, numberOf, meaning, verdict, headerTest, entryTest, outputTest, blockTests, writeTests, blockVerdict, writeVerdict, accepts, written}
 use Rattle.record.specs.Promises.{Writes}
@@ -33,7 +33,7 @@ use Rattle.record.proofs.Answers.{number-above, refused-not}
 module _ (b : Block) where
   -- its letters are right
   pub letters-right : (k : ℕ) → k < 4 → outside (headBytes b) k ≡ false
-  unfolding outside headBytes lows highs
+  unfolding outside headBytes headerTable lows highs
   letters-right = each (λ k. outside (headBytes b) k ≡ false) 4 (refl ▹ refl ▹ refl ▹ refl ▹ end)
 
   -- one walk over its 28 header bytes stops at the lowest of bytes 4 to 27

@@ -16,7 +16,7 @@ use Rattle.lists.proofs.TableByIndex.{is-tab, getD-tab}
 use Rattle.lists.proofs.Least.{least-below, least-ext}
 use Rattle.lists.proofs.Little.{little-ext, little-bytes, bytes-little}
 use Rattle.record.specs.Check.{checkOf}
-use Rattle.record.specs.Rules.{lows, highs, outside, at, entryByte, rule, broken}
+use Rattle.record.specs.Rules.{headerTable, lows, highs, outside, at, entryByte, rule, broken}
 use Rattle.record.specs.Layout.{noEntry, entryAt, decoded, headBytes, entryBytes, byteOf, body, encoded}
 use Rattle.record.specs.Refusals.{meaning, readVerdict, blockVerdict, writeVerdict, readBlock, written}
 use Rattle.record.specs.Promises.{Reads, Writes, Bytes, Whole}
@@ -103,7 +103,7 @@ module _ (s : List ℕ) (u : Bytes s) (f : Fine s) where
   number-byte k h = bytes-little 4 s 12 (u .byte) k h
 
   head-same : (j : ℕ) → j < 28 → getD (headBytes (decoded s)) j 0 ≡ getD s j 0
-  unfolding headBytes decoded lows highs bytes
+  unfolding headBytes decoded headerTable lows highs bytes
   head-same =
       each (λ j. getD (headBytes (decoded s)) j 0 ≡ getD s j 0) 28
       (fixed 0 (omega arith) refl ▹ fixed 1 (omega arith) refl ▹ fixed 2 (omega arith) refl ▹ fixed 3 (omega arith) refl

@@ -1,4 +1,4 @@
--- The check of a record.
+-- "Block record, 512 bytes", its end: the check.
 use Prim.Native.Nat.{ℕ, zero, suc, _+_, _*_, _%_}
 use mathlib.Core.List.{List}
 use Rattle.lists.specs.Bytes.{little}

@@ -1,9 +1,9 @@
--- Where each part of a block stands in its record: the block that bytes say, and the bytes of a block.
+-- "Block record, 512 bytes": where each part of a block stands, from bytes to block and from block to bytes.
 use Prim.Native.Nat.{ℕ}
 use mathlib.Core.List.{List, [], _∷_, _++_}
 use lib.ListN.{getD, replicate}
 use Rattle.lists.specs.Lists.{tab, joined}
-use Rattle.lists.specs.Bytes.{little, bytes}
+use Rattle.lists.specs.Bytes.{ascii, little, bytes}
 use Rattle.record.specs.Check.{checkOf}
 use Rattle.record.specs.Rules.{entryByte}
 use Rattle.record.specs.declared.Block.{Block}
@@ -45,7 +45,8 @@ noBlock = record { n = 0; q = 0; w = 0; f = 0; d = 0; c = 0; origin = 0; number 
 -- bytes 0 to 27: letters BLK1, n, Q, W, f, d, c, origin, a spare, the block number, twelve spares
 unfoldable pub headBytes : Block → List ℕ
 headBytes b =
-    66 ∷ 76 ∷ 75 ∷ 49 ∷ b .n ∷ b .q ∷ b .w ∷ b .f ∷ b .d ∷ b .c ∷ b .origin ∷ 0 ∷ (bytes 4 (b .number) ++ replicate 12 0)
+    ascii "BLK1"
+    ++ (b .n ∷ b .q ∷ b .w ∷ b .f ∷ b .d ∷ b .c ∷ b .origin ∷ 0 ∷ (bytes 4 (b .number) ++ replicate 12 0))
 
 -- the eight bytes of an entry
 unfoldable pub entryBytes : Entry → List ℕ

@@ -1,4 +1,5 @@
--- Refusal numbers, tested in this order. The definitions stand in the order of the table.
+-- "Refusal numbers, tested in this order". The definitions stand in the order of the table: tests 1 to 6 here. Tests 7 to 9
+-- speak of latencies and play states; they stand in crates/play/specs/Refusals, 9 by `unfit` in crates/model/specs/Cycles.
 use Prim.Native.Nat.{ℕ}
 use mathlib.Core.Bool.{Bool, not}
 use mathlib.Core.List.{List, [], _∷_, _++_}
@@ -44,17 +45,17 @@ abbrev pub meaning : Answer → ℕ × ℕ
 meaning Accepted = (0, 0)
 meaning (Refused r) = (numberOf r, placeOf r)
 
--- a line of the table: its number, whether the refusal is given, its place
+-- a test, one for each number of the table: its number, whether the refusal is given, its place
 pub record Test : Type 0 where
   pub number : ℕ
   pub given : Bool
   pub place : ℕ
 
--- the line of a number, whether it is given, and its place
+-- the test of a number, whether its refusal is given, and its place
 abbrev pub test : ℕ → Bool → ℕ → Test
 test k g p = record { number = k; given = g; place = p }
 
--- a line whose place is the lowest from a on and below b at which there is a fault
+-- a test whose place is the first from a on and below b at which there is a fault
 abbrev pub firstFault : ℕ → ℕ → ℕ → (ℕ → Bool) → Test
 firstFault k a b fault = test k (ltb (least a b fault) b) (least a b fault)
 

@@ -1,18 +1,51 @@
--- The rules of a record's header bytes and entries.
+-- "Block record, 512 bytes": the ranges of the header bytes, and the rule of an entry.
 use Prim.Native.Nat.{ℕ, _+_, _*_}
 use mathlib.Core.Bool.{Bool, _&&_, _||_, not}
-use mathlib.Core.List.{List, [], _∷_}
-use lib.ListN.{getD}
+use mathlib.Core.List.{List, [], _∷_, _++_, map}
+use lib.ListN.{getD, replicate}
 use lib.Dec.{leb, ltb, eqb}
 use Rattle.lists.specs.Lists.{pick}
+use Rattle.lists.specs.Bytes.{ascii}
 
--- "Each header byte has a lowest and a highest allowed value": the lowest of bytes 0 to 27, the letters BLK1 first
+-- bytes that have one allowed value each
+abbrev pub fixed : List ℕ → List (ℕ × ℕ)
+fixed = map (λ x. (x, x))
+
+-- "Each header byte has a lowest and a highest allowed value": the table, row by row
+unfoldable pub headerTable : List (ℕ × ℕ)
+headerTable =
+    -- 0–3 letters BLK1
+    fixed (ascii "BLK1")
+    ++ (
+    -- 4 n, instructions
+    (1, 60)
+    -- 5 Q, instruction buffer
+    ∷ (1, 16)
+    -- 6 W, reorder buffer
+    ∷ (1, 32)
+    -- 7, 8, 9 fetch, decode, commit width f, d, c
+    ∷ (1, 4)
+    ∷ (1, 4)
+    ∷ (1, 4)
+    -- 10 origin: 1 classroom, 2 production
+    ∷ (1, 2)
+    -- 11 spare
+    ∷ (0, 0)
+    -- 12–15 block number, any
+    ∷ (0, 255)
+    ∷ (0, 255)
+    ∷ (0, 255)
+    ∷ (0, 255)
+    -- 16–27 spare
+    ∷ replicate 12 (0, 0))
+
+-- the lowest allowed values
 unfoldable pub lows : List ℕ
-lows = 66 ∷ 76 ∷ 75 ∷ 49 ∷ 1 ∷ 1 ∷ 1 ∷ 1 ∷ 1 ∷ 1 ∷ 1 ∷ 0 ∷ 0 ∷ 0 ∷ 0 ∷ 0 ∷ 0 ∷ 0 ∷ 0 ∷ 0 ∷ 0 ∷ 0 ∷ 0 ∷ 0 ∷ 0 ∷ 0 ∷ 0 ∷ 0 ∷ []
+lows = map (λ r. r .0) headerTable
 
--- the highest of bytes 0 to 27
+-- the highest
 unfoldable pub highs : List ℕ
-highs = 66 ∷ 76 ∷ 75 ∷ 49 ∷ 60 ∷ 16 ∷ 32 ∷ 4 ∷ 4 ∷ 4 ∷ 2 ∷ 0 ∷ 255 ∷ 255 ∷ 255 ∷ 255 ∷ 0 ∷ 0 ∷ 0 ∷ 0 ∷ 0 ∷ 0 ∷ 0 ∷ 0 ∷ 0 ∷ 0 ∷ 0 ∷ 0 ∷ []
+highs = map (λ r. r .1) headerTable
 
 -- header byte k is outside its range
 unfoldable pub outside : List ℕ → ℕ → Bool

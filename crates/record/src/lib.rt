@@ -1,14 +1,14 @@
 // The block record: its value, its refusals, its check, its reader and its writer.
+mod check;
 mod reader;
 mod reasons;
 mod rules;
-mod check;
 mod writer;
 
+pub use check::seal;
 pub use reader::read;
 pub use reasons::number_of;
 pub use reasons::place_of;
-pub use check::seal;
 pub use writer::block_answer;
 pub use writer::put_head;
 pub use writer::write;

@@ -12,10 +12,10 @@ use crate::Block;
 use crate::Entry;
 use crate::Reading;
 use crate::Reason;
-use crate::rules::entry_ok;
-use crate::rules::header_fault;
 use crate::check::check_of;
 use crate::check::four_at;
+use crate::rules::entry_ok;
+use crate::rules::header_fault;
 
 // Entry i of a record.
 fn entry_at(s: &[u8], i: usize) -> Entry

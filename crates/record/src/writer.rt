@@ -12,9 +12,9 @@ use crate::Answer;
 use crate::Block;
 use crate::Entry;
 use crate::Reason;
+use crate::check::seal;
 use crate::rules::entry_ok;
 use crate::rules::header_fault;
-use crate::check::seal;
 
 fn head_bytes(b: Block) -> [u8; 28]
     ensures { λ r. ⌜ r ≡ headBytes b ⌝ }

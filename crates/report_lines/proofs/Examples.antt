@@ -10,7 +10,7 @@ use Rattle.lists.specs.Sums.{largest, sum, none, any}
 use Rattle.model.specs.Nodes.{latency, lowest, highest, finishEdges, lastWriter, source, sources, orderEdges, into, finishInto, orderInto}
 use Rattle.model.specs.Paths.{edgesInto, reached, pairs, count, paths, contend, contending}
 use Rattle.model.specs.Cycles.{finish, ready}
-use Rattle.model.specs.Rounds.{earliest, R, rival, B, behind, latestEX, latestStart, round, apart, new, roundsFrom, pairCount, windows, roundCount, apartCount, bound}
+use Rattle.model.specs.Rounds.{earliest, R, rival, latestEX, latestStart, round, apart, new, roundsFrom, pairCount, windows, roundCount, apartCount, bound}
 
 -- "at 3 refused 2"
 pub refusal-line : refusalLine 3 2 ≡ 97 ∷ 116 ∷ 32 ∷ 51 ∷ 32 ∷ 114 ∷ 101 ∷ 102 ∷ 117 ∷ 115 ∷ 101 ∷ 100 ∷ 32 ∷ 50 ∷ 10 ∷ []
@@ -24,10 +24,10 @@ report-none = refl
 
 -- block E as production block 7: "7 P 4 27 1 1 0"
 pub line-E : blockLine blockE7 ≡ 55 ∷ 32 ∷ 80 ∷ 32 ∷ 52 ∷ 32 ∷ 50 ∷ 55 ∷ 32 ∷ 49 ∷ 32 ∷ 49 ∷ 32 ∷ 48 ∷ 10 ∷ []
-unfolding stamped blockE blockE7 digitsOf decimal spaced blockLine tab tabFrom numbersWhere numbersWhereFrom inOrder largest sum none any latency lowest highest finishEdges lastWriter source sources orderEdges into finishInto orderInto edgesInto reached pairs count paths contend contending finish ready earliest R rival B behind latestEX latestStart round apart new roundsFrom pairCount windows roundCount apartCount bound
+unfolding stamped blockE blockE7 digitsOf decimal spaced blockLine tab tabFrom numbersWhere numbersWhereFrom inOrder largest sum none any latency lowest highest finishEdges lastWriter source sources orderEdges into finishInto orderInto edgesInto reached pairs count paths contend contending finish ready earliest R rival latestEX latestStart round apart new roundsFrom pairCount windows roundCount apartCount bound
 line-E = refl
 
 -- block F as classroom block 8: "8 C 4 10 2 2 2"
 pub line-F : blockLine blockF8 ≡ 56 ∷ 32 ∷ 67 ∷ 32 ∷ 52 ∷ 32 ∷ 49 ∷ 48 ∷ 32 ∷ 50 ∷ 32 ∷ 50 ∷ 32 ∷ 50 ∷ 10 ∷ []
-unfolding stamped blockF blockF8 digitsOf decimal spaced blockLine tab tabFrom numbersWhere numbersWhereFrom inOrder largest sum none any latency lowest highest finishEdges lastWriter source sources orderEdges into finishInto orderInto edgesInto reached pairs count paths contend contending finish ready earliest R rival B behind latestEX latestStart round apart new roundsFrom pairCount windows roundCount apartCount bound
+unfolding stamped blockF blockF8 digitsOf decimal spaced blockLine tab tabFrom numbersWhere numbersWhereFrom inOrder largest sum none any latency lowest highest finishEdges lastWriter source sources orderEdges into finishInto orderInto edgesInto reached pairs count paths contend contending finish ready earliest R rival latestEX latestStart round apart new roundsFrom pairCount windows roundCount apartCount bound
 line-F = refl

@@ -11,10 +11,10 @@ ghost use Rattle.unpacked.specs.inside.UnpackedBlock.{Sources};
 ghost use Rattle.rounds.specs.inside.PairRows.{Rows, Even};
 use crate::Counts;
 use crate::contenders::contenders_into;
-use crate::times::round_into;
 use crate::rivals::first_apart;
 use crate::rivals::keep_rows;
 use crate::rivals::pairs_of;
+use crate::times::round_into;
 use record::Block;
 
 // Rounds until one finds no new pair apart. The rows come as the contending pairs and go as those that are not apart; late

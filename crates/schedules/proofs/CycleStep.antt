@@ -25,7 +25,7 @@ use Rattle.schedules.proofs.Counting.{count}
 use Rattle.schedules.proofs.Net.{Net, busy, Busy, busy→, →busy}
 use Rattle.schedules.proofs.ScheduleStep.{May, Next}
 use Rattle.schedules.proofs.BlockNet.{T-true, true-T, net, count-EX}
-use Rattle.schedules.proofs.CycleTurns.{started-yes, started-not, seen, Known, begun, turns-later, turns-below, Begins, begins-means, means-begins}
+use Rattle.schedules.proofs.CycleTurns.{started-yes, started-not, unstarted, unstarted-start, seen, Known, begun, turns-length, turns-later, turns-below, Begins, begins-means, means-begins}
 
 -- ---- one cycle
 module _ (b : Block) (A : Ranges b) (lo : ℕ → ℕ) (pos : (v : ℕ) → v < nodes b → 1 ≤ lo v) (lat : ℕ → ℕ) (H : ℕ) (early : H < notStarted)
@@ -36,6 +36,9 @@ module _ (b : Block) (A : Ranges b) (lo : ℕ → ℕ) (pos : (v : ℕ) → v < 
 
   abbrev after : List ℕ
   after = now (nodes b)
+
+  now-long : (v u : ℕ) → u < nodes b → u < length (now v)
+  now-long v u l = omega (arith, turns-length b lat H s v)
 
   abbrev G : Net
   G = net b A lo pos
@@ -58,7 +61,7 @@ module _ (b : Block) (A : Ranges b) (lo : ℕ → ℕ) (pos : (v : ℕ) → v < 
 
       go : (t : Bool) → begun b lat H s u ≡ t → Known H (start s u) → Old u ⊎ (New u ⊎ Left u)
       go true e k =
-          let w = begins-means b lat H (now u) u e .waiting in
+          let w = unstarted-start (now u) u (now-long u u l) (begins-means b lat H (now u) u e .waiting) in
           let q : start s u ≡ notStarted = omega (arith, turns-later b lat H s u u (omega arith)) in
           inr (inl (q, e, rw e at is))
       go false e (inl k) = inl (k, rw e at is)
@@ -138,7 +141,7 @@ module _ (b : Block) (A : Ranges b) (lo : ℕ → ℕ) (pos : (v : ℕ) → v < 
         let y : H < start (now v) w + lat w = omega (arith, u .runs) in
         and-both (eqb (kindOf j) (kindOf (instruction v))) _ (eq-eqb _ _ (ap kindOf (sym i) ∙ u .same))
         (and-both (started (now v) w && leb (start (now v) w) H) _
-        (and-both (started (now v) w) _ (started-yes (now v) w (omega arith)) (le-leb _ _ x))
+        (and-both (started (now v) w) _ (started-yes (now v) w (now-long v w lw) (omega arith)) (le-leb _ _ x))
         (lt-ltb _ _ y))
 
     busy-off : (u : ℕ) → isEX u ≡ false → busy G lat next v H u ≡ false
@@ -176,10 +179,11 @@ module _ (b : Block) (A : Ranges b) (lo : ℕ → ℕ) (pos : (v : ℕ) → v < 
     may-begins w m =
         means-begins b lat H (now v) v
         (record {
-          waiting = turns-later b lat H s v v (omega arith) ∙ w;
+          waiting = unstarted (now v) v (turns-later b lat H s v v (omega arith) ∙ w);
           finished = λ u i. let o = G .fin-lt u v i in let d = m .ready .fin u i in
-              (omega (arith, now-before u o), started-yes (now v) u (omega (arith, now-before u o)));
-          ordered = λ u i. let o = G .ord-lt u v i in let d = m .ready .ord u i in started-yes (now v) u (omega (arith, now-before u o));
+              (omega (arith, now-before u o), started-yes (now v) u (now-long v u (omega arith)) (omega (arith, now-before u o)));
+          ordered = λ u i. let o = G .ord-lt u v i in let d = m .ready .ord u i in
+              started-yes (now v) u (now-long v u (omega arith)) (omega (arith, now-before u o));
           unit = λ x. lt-ltb (length (numbersWhere 0 (b .n) working)) (units b (kindOf (instruction v))) (omega (arith, same-count, m .unit (true-T (isEX v) x)));
         })
 

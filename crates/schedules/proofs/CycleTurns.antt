@@ -1,14 +1,14 @@
 -- The turns of a cycle, node by node, and the four tests of a turn. Assumes nothing.
 use Prim.Native.Nat.{ℕ, zero, suc, _+_, _≤_, _<_, min}
-use mathlib.Core.Path.{_≡_, refl, _∙_}
-use mathlib.Core.Bool.{Bool, true, not, _&&_, _||_}
+use mathlib.Core.Path.{_≡_, refl, sym, ap, _∙_}
+use mathlib.Core.Bool.{Bool, true, false, and-false, not, _&&_, _||_}
 use mathlib.Core.List.{List}
 use mathlib.Core.Logic.{_⊎_}
 use native.Mathlib.Omega.{arith}
-use lib.Dec.{leb, ltb}
+use lib.Dec.{leb, ltb, eqb}
 use lib.ListN.{length, length-set}
 use lib.Seq.{getD-set-same, getD-set-other}
-use borrow.Author.Tests.{ltb-true, ltb-false, le-leb, leb-true, eq-eqb, ne-eqb, eqb-true, eqb-false, not-true, not-false}
+use borrow.Author.Tests.{lt-ltb, ltb-true, ltb-false, le-leb, leb-true, eq-eqb, ne-eqb, eqb-true, eqb-false, not-true, not-false}
 use Rattle.lists.specs.Lists.{In, pick}
 use Rattle.lists.specs.Sums.{all}
 use Rattle.lists.proofs.Bools.{by-test, and-left, and-right, and-both}
@@ -18,17 +18,23 @@ use Rattle.model.specs.Nodes.{instruction, isEX, entry, finishInto, orderInto}
 use Rattle.model.specs.Cycles.{notStarted, start, started, finish, free, begins, turns}
 
 -- ---- a start, or not started
-pub started-yes : (s : List ℕ) (v : ℕ) → start s v < notStarted → started s v ≡ true
+pub started-is : (s : List ℕ) (v : ℕ) → v < length s → started s v ≡ not (eqb (start s v) notStarted)
 unfolding started
-started-yes s v h = let e = ne-eqb (start s v) notStarted (λ q. omega arith) in rw e refl
+started-is s v l = rw (lt-ltb v (length s) l) refl
+
+pub started-yes : (s : List ℕ) (v : ℕ) → v < length s → start s v < notStarted → started s v ≡ true
+started-yes s v l h = rw (started-is s v l, ne-eqb (start s v) notStarted (λ q. omega arith)) refl
 
 pub started-not : (s : List ℕ) (v : ℕ) → started s v ≡ true → start s v ≡ notStarted → ⊥
 unfolding started
-started-not s v h e = eqb-false (start s v) notStarted (not-true _ h) e
+started-not s v h e = eqb-false (start s v) notStarted (not-true _ (and-right (ltb v (length s)) _ h)) e
 
-pub unstarted : (s : List ℕ) (v : ℕ) → start s v ≡ notStarted → not (started s v) ≡ true
+pub unstarted : (s : List ℕ) (v : ℕ) → start s v ≡ notStarted → started s v ≡ false
 unfolding started
-unstarted s v e = rw (eq-eqb (start s v) notStarted e) refl
+unstarted s v e = rw (eq-eqb (start s v) notStarted e) (and-false (ltb v (length s)))
+
+pub unstarted-start : (s : List ℕ) (v : ℕ) → v < length s → started s v ≡ false → start s v ≡ notStarted
+unstarted-start s v l h = eqb-true (start s v) notStarted (not-false _ (sym (started-is s v l) ∙ h))
 
 -- the start of node v, or the horizon H where it has not started
 abbrev pub seen : ℕ → List ℕ → ℕ → ℕ
@@ -83,7 +89,7 @@ module _ (b : Block) (lat : ℕ → ℕ) (t : ℕ) (s : List ℕ) where
 
 -- ---- the four tests of a turn
 pub record Begins (b : Block) (lat : ℕ → ℕ) (t : ℕ) (s : List ℕ) (v : ℕ) : Type 0 where
-  pub waiting : start s v ≡ notStarted
+  pub waiting : started s v ≡ false
   pub finished : (u : ℕ) → In u (finishInto b v) → (start s u + lat u ≤ t) × (started s u ≡ true)
   pub ordered : (u : ℕ) → In u (orderInto b v) → started s u ≡ true
   pub unit : isEX v ≡ true → free b lat t s (entry b (instruction v) .kind) ≡ true
@@ -94,10 +100,6 @@ module _ (b : Block) (lat : ℕ → ℕ) (t : ℕ) (s : List ℕ) (v : ℕ) wher
 
   abbrev served : Bool
   served = not (isEX v) || free b lat t s (entry b (instruction v) .kind)
-
-  not-started : not (started s v) ≡ true → start s v ≡ notStarted
-  unfolding started
-  not-started h = eqb-true (start s v) notStarted (not-false _ (not-true _ h))
 
   serve : served ≡ true → isEX v ≡ true → free b lat t s (entry b (instruction v) .kind) ≡ true
   serve h e = rw e at h
@@ -112,7 +114,7 @@ module _ (b : Block) (lat : ℕ → ℕ) (t : ℕ) (s : List ℕ) (v : ℕ) wher
       let y = and-left _ (all (started s) (orderInto b v)) x in
       let f = all-each arrived (finishInto b v) (and-right (not (started s v)) _ y) in
       record {
-        waiting = not-started (and-left (not (started s v)) _ y);
+        waiting = not-true _ (and-left (not (started s v)) _ y);
         finished = λ u i. (leb-true (start s u + lat u) t (and-right (started s u) _ (f u i)), and-left (started s u) _ (f u i));
         ordered = all-each (started s) (orderInto b v) (and-right (not (started s v) && all arrived (finishInto b v)) _ x);
         unit = serve (and-right (not (started s v) && all arrived (finishInto b v) && all (started s) (orderInto b v)) _ h);
@@ -123,7 +125,7 @@ module _ (b : Block) (lat : ℕ → ℕ) (t : ℕ) (s : List ℕ) (v : ℕ) wher
   means-begins h =
       and-both (not (started s v) && all arrived (finishInto b v) && all (started s) (orderInto b v)) served
       (and-both (not (started s v) && all arrived (finishInto b v)) (all (started s) (orderInto b v))
-      (and-both (not (started s v)) (all arrived (finishInto b v)) (unstarted s v (h .waiting))
+      (and-both (not (started s v)) (all arrived (finishInto b v)) (ap not (h .waiting))
       (each-all arrived (finishInto b v) (λ u i. and-both (started s u) _ (h .finished u i .1) (le-leb (start s u + lat u) t (h .finished u i .0)))))
       (each-all (started s) (orderInto b v) (h .ordered)))
       (serves (h .unit))

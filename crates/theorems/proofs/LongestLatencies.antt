@@ -9,7 +9,8 @@ use Rattle.lists.proofs.Elements.{getD-all}
 use Rattle.record.specs.Layout.{noEntry}
 use Rattle.record.specs.Refusals.{verdict}
 use Rattle.model.specs.Blocks.{blockE}
-use Rattle.model.proofs.WorkedResults.{summary, worked, worked-by-hand, blocks-accepted}
+use Rattle.model.specs.Worked.{summary, worked}
+use Rattle.model.proofs.WorkedResults.{worked-by-hand, blocks-accepted}
 use Rattle.play.specs.Refusals.{wrong, listTest, latencyTest, listTests}
 use Rattle.theorems.specs.Words.{ByteLatencies, AcceptedList, longest, Anomaly}
 

@@ -23,7 +23,7 @@ use Rattle.lists.proofs.NumbersWhereGrowth.{in-numbersWhere, numbersWhere-ext}
 use Rattle.record.specs.declared.Block.{Block}
 use Rattle.record.proofs.AcceptedRanges.{Ranges}
 use Rattle.model.specs.Nodes.{EX, nodes, node, stage, instruction, isEX, entry, lowest, highest, finishInto, orderInto}
-use Rattle.model.specs.Paths.{edgesInto, Path, Pairs, has, contending}
+use Rattle.model.specs.Paths.{edgesInto, Edge, Path, Pairs, has, contending}
 use Rattle.model.specs.Paths.Path.{edge, on}
 use Rattle.model.specs.Cycles.{start, finish, ready}
 use Rattle.model.specs.Rounds.{earliest, R, rival, latestStart, round}
@@ -59,9 +59,9 @@ module _ (b : Block) (A : Ranges b) where
       }
 
   -- ---- paths of the model are paths of the net
-  edge-way : (u v : ℕ) → In u (edgesInto b v) → In u (finishInto b v) ⊎ In u (orderInto b v)
+  edge-way : (u v : ℕ) → Edge b u v → In u (finishInto b v) ⊎ In u (orderInto b v)
   unfolding edgesInto
-  edge-way u v i = in-split u (finishInto b v) (orderInto b v) i
+  edge-way u v i = in-split u (finishInto b v) (orderInto b v) (i .from)
 
   pub path-way : (u v : ℕ) → Path b u v → Way G u v
   path-way u v (edge i) = go (edge-way u v i)

@@ -8,7 +8,7 @@ use mathlib.Core.Logic.{_⊎_, inl, inr}
 use native.Mathlib.Omega.{arith}
 use native.Mathlib.Nat.{zero-add}
 use lib.Dec.{leb}
-use borrow.Author.Tests.{eqb-true, leb-true, leb-false, not-false}
+use borrow.Author.Tests.{leb-true, leb-false}
 use Rattle.lists.proofs.Bools.{by-test}
 use Rattle.record.specs.declared.Block.{Block}
 use Rattle.record.proofs.AcceptedRanges.{Ranges, ranges}
@@ -21,7 +21,7 @@ use Rattle.model.proofs.Latencies.{latency-mono, lowest-some, lowest-highest}
 use Rattle.schedules.proofs.Net.{Fits, Sched}
 use Rattle.schedules.proofs.RoundsBound.{early-ready}
 use Rattle.schedules.proofs.BlockNet.{ready-done, done-ready}
-use Rattle.schedules.proofs.CycleTurns.{seen, started-yes}
+use Rattle.schedules.proofs.CycleTurns.{seen, started-yes, unstarted-start}
 use Rattle.schedules.proofs.PlaySchedule.{each-allStarted, allStarted-more, Played, Stopped, first-played, playOn-played}
 use Rattle.schedules.proofs.PlayEnds.{play-started, play-sched}
 use Rattle.play.proofs.LatencyList.{ranged}
@@ -90,11 +90,10 @@ module _ (b : Block) (accepted : AcceptedBlock b) (bytes : ByteLatencies b) (lat
     seen-by v l = windows-bound b A lat fits (state .t) (seen (state .t) (state .starts)) (stopped .0 .sched) v l .start
 
     few-wait : (v : ℕ) → v < nodes b → started (state .starts) v ≡ false → k ≤ start (windows b .late) v
-    unfolding started
     few-wait v l f = go (stopped .1 .at)
       where
         none : start (state .starts) v ≡ notStarted
-        none = eqb-true (start (state .starts) v) notStarted (not-false _ f)
+        none = unstarted-start (state .starts) v (omega (arith, stopped .0 .long)) f
 
         go : (state .t ≡ k) ⊎ ((u : ℕ) → u < nodes b → start (state .starts) u < state .t) → k ≤ start (windows b .late) v
         go (inl e) = omega (arith, seen-by v l, late-below b accepted bytes v l, A .n .1, none)
@@ -108,7 +107,7 @@ module _ (b : Block) (accepted : AcceptedBlock b) (bytes : ByteLatencies b) (lat
   last = playOn (513 * b .n) b lat firstState
 
   all-started : (v : ℕ) → v < nodes b → started (last .starts) v ≡ true
-  all-started v l = started-yes (last .starts) v (go (stopped (513 * b .n) last-few .1 .at))
+  all-started v l = started-yes (last .starts) v (omega (arith, stopped (513 * b .n) last-few .0 .long)) (go (stopped (513 * b .n) last-few .1 .at))
     where
       go : (last .t ≡ 513 * b .n) ⊎ ((u : ℕ) → u < nodes b → start (last .starts) u < last .t) → start (last .starts) v < notStarted
       go (inl e) = omega (arith, seen-by (513 * b .n) last-few v l, late-below b accepted bytes v l, last-few)

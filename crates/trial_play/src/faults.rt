@@ -192,5 +192,5 @@ pub fn walks() {
         x = next(x);
     }
     count(b"walks from made states", 300);
-    count(b"  sum allStarted the states", sum as usize);
+    count(b"  sum over the states", sum as usize);
 }

@@ -17,9 +17,10 @@ pub record Chosen (b : Block) (kinds l : List ℕ) : Type 0 where
   pub least : (i : ℕ) → i < b .n → entry b i .lo ≤ getD l i 0
   pub most : (i : ℕ) → i < b .n → getD l i 0 ≤ entry b i .hi
 
--- in cycle t: no start is after t
+-- in cycle t: there are 300 nodes, and no start is after t
 pub record Timed (t : ℕ) (s : List ℕ) : Type 0 where
   pub now : t < 30780
+  pub long : length s ≡ 300
   pub each : (v : ℕ) → (start s v ≤ t) ⊎ (start s v ≡ notStarted)
 
 -- ends has for each kind from when on, from cycle t on, its unit is free

@@ -29,7 +29,7 @@ returns-3 : tie.Need-returns-3
 returns-3 c =
     let a = c .before .before .before .before .args in
     let is
-    = starts-not (a .h) (a .x) (a .y) (a .l) (getD (a .ends .now) (a .k) 0) (a .t) (a .s .now) (a .i) (a .g) (c .if1 .left) in
+    = starts-not (a .h) (a .x) (a .y) (a .l) (getD (a .ends .now) (a .k) 0) (a .t) (a .s .now) (a .i) (a .g) (search needs) (c .if1 .left) in
     (rw is refl, rw is refl)
 
 pub node-turn-spec : {M : Type 1} → statement M

@@ -45,7 +45,7 @@ loop-again c =
       search needs,
       length-set (o .ends) (k .result) (e .result) ∙ o .inv .1,
       λ b t n L w.
-          before-more b (x .kinds .now) (x .lat .now) L t (x .s .now) w (o .i) (search needs) (o .ends) (k .result) (e .result)
+          before-more b (x .kinds .now) (x .lat .now) L t (x .s .now) w (o .i) (search needs) (omega arith) (o .ends) (k .result) (e .result)
           (k .ensures) (omega (arith, array-write-ends c)) (e .ensures) (o .inv .2 b t n L w),
     )
 

@@ -28,7 +28,7 @@ returns-2 : tie.Need-returns-2 Inv-loop μ-loop
 returns-2 c b e =
     let a = c .before .before .before .before .before .before .args in
     let t = c .before .before .before .before .loop in
-    sym (unfit-here b (stateOf (a .t2)) (5 * a .n) (omega arith) (t .v) (search needs) (sym (c .before .is-unfit .ensures) ∙ c .if2 .taken))
+    sym (unfit-here b (stateOf (a .t2)) (search needs) (5 * a .n) (omega arith) (t .v) (search needs) (sym (c .before .is-unfit .ensures) ∙ c .if2 .taken))
 
 loop-again : tie.Need-loop-again Inv-loop μ-loop
 loop-again c =
@@ -39,7 +39,7 @@ returns-3 : tie.Need-returns-3 Inv-loop μ-loop
 returns-3 c b e =
     let a = c .before .before .before .args in
     let t = c .before .loop in
-    sym (unfit-none b (stateOf (a .t2)) (5 * a .n) (omega arith) (t .inv .2) (omega arith) (λ v l. t .inv .3 v (omega arith)))
+    sym (unfit-none b (stateOf (a .t2)) (search needs) (5 * a .n) (omega arith) (t .inv .2) (omega arith) (λ v l. t .inv .3 v (omega arith)))
 
 pub unfit-state-spec : {M : Type 1} → statement M
 unfit-state-spec =

@@ -4,7 +4,7 @@ use mathlib.Core.Bool.{false}
 use Prim.Native.Nat.{ℕ, _≤_, _<_, _-_}
 use native.Mathlib.Omega.{arith}
 use borrow.Author.Count.{below-none, below-more}
-use Rattle.record.specs.Rules.{lows, highs, outside}
+use Rattle.record.specs.Rules.{headerTable, lows, highs, outside}
 use Rattle.lists.proofs.Least.{least-here, least-none}
 use borrow.Author.Needs.{needs}
 use Rattle.record.proofs.rules.header_fault.Statement.{statement}
@@ -20,11 +20,11 @@ loop-holds : tie.Need-loop-holds Inv-loop μ-loop
 loop-holds c = (search needs, below-none _)
 
 returns : tie.Need-returns Inv-loop μ-loop
-unfolding outside lows highs
+unfolding outside headerTable lows highs
 returns c = sym (least-here 0 28 _ _ (search needs) (search needs) (λ j _ h. c .before .before .before .loop .inv .1 j h) (c .if1 .taken))
 
 loop-again : tie.Need-loop-again Inv-loop μ-loop
-unfolding outside lows highs
+unfolding outside headerTable lows highs
 loop-again c = (search needs, below-more _ _ (c .before .before .before .loop .inv .1) (c .if1 .left))
 
 returns-2 : tie.Need-returns-2 Inv-loop μ-loop
