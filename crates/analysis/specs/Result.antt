@@ -4,7 +4,7 @@ use mathlib.Core.List.{List, [], _∷_, _++_}
 use lib.ListN.{length, drop, replicate}
 use lib.Dec.{eqb, leb, ltb}
 use Rattle.lists.specs.Lists.{pick, joined}
-use Rattle.lists.specs.Bytes.{bytes}
+use Rattle.lists.specs.Bytes.{ascii, bytes}
 use Rattle.record.specs.Check.{checkOf}
 use Rattle.record.specs.Refusals.{Test, verdict, accepts, outputTest, blockTests}
 use Rattle.record.specs.declared.Block.{Block}
@@ -16,8 +16,9 @@ use Rattle.model.specs.Rounds.{earliest, windows, bound, roundCount, pairCount,
 -- pairs apart; 18–27 zero."
 unfoldable pub headOf : ℕ → ℕ → ℕ → ℕ → ℕ → ℕ → ℕ → List ℕ
 headOf n origin bound number rounds pairs apart =
-    82 ∷ 69 ∷ 83 ∷ 49 ∷ n ∷ origin
-    ∷ (bytes 2 bound ++ bytes 4 number ++ bytes 2 rounds ++ bytes 2 pairs ++ bytes 2 apart ++ replicate 10 0)
+    ascii "RES1"
+    ++ (n ∷ origin
+    ∷ (bytes 2 bound ++ bytes 4 number ++ bytes 2 rounds ++ bytes 2 pairs ++ bytes 2 apart ++ replicate 10 0))
 
 -- the same of a block
 unfoldable pub resultHead : Block → List ℕ

@@ -12,6 +12,10 @@ use crate::outputs::put_result;
 use crate::outputs::put_table;
 use record::Answer;
 use record::Block;
+use record::HI;
+use record::LO;
+use record::READS1;
+use record::READS2;
 use record::Reason;
 use rounds::Counts;
 
@@ -23,10 +27,10 @@ fn times_into(b: Block, early: &mut [u16], late: &mut [u16]) -> Counts
     ensures { λ _. ⌜ ((i : ℕ) → entry b i .hi ≤ 255) ⌝ }
 {
     let h = unpacked::shape_of(b);
-    let lo = unpacked::column(b, 1);
-    let his = unpacked::column(b, 2);
-    let s1 = unpacked::sources(b, 4);
-    let s2 = unpacked::sources(b, 5);
+    let lo = unpacked::column(b, LO);
+    let his = unpacked::column(b, HI);
+    let s1 = unpacked::sources(b, READS1);
+    let s2 = unpacked::sources(b, READS2);
     rounds::earliest_into(h, &lo, &s1, &s2, early);
     rounds::refine(b, &his, &s1, &s2, early, late)
 }
@@ -38,7 +42,7 @@ fn result_into(b: Block, out: &mut [u8])
     let mut early = [0u16; 300];
     let mut late = [0u16; 300];
     let counts = times_into(b, &mut early, &mut late);
-    let his = unpacked::column(b, 2);
+    let his = unpacked::column(b, HI);
     put_result(b, &his, &early, &late, counts, out);
 }
 
@@ -49,10 +53,10 @@ fn table_into(b: Block, out: &mut [u16])
     let mut early = [0u16; 300];
     let mut late = [0u16; 300];
     times_into(b, &mut early, &mut late);
-    let lo = unpacked::column(b, 1);
-    let his = unpacked::column(b, 2);
-    let s1 = unpacked::sources(b, 4);
-    let s2 = unpacked::sources(b, 5);
+    let lo = unpacked::column(b, LO);
+    let his = unpacked::column(b, HI);
+    let s1 = unpacked::sources(b, READS1);
+    let s2 = unpacked::sources(b, READS2);
     put_table(b, &lo, &his, &s1, &s2, &early, &late, out);
 }
 

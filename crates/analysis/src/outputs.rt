@@ -16,6 +16,8 @@ ghost use Rattle.analysis.specs.Result.{headOf, fourOf, result};
 use record::Block;
 use rounds::Counts;
 use rounds::finish_ex;
+use unpacked::CM;
+use unpacked::EX;
 use unpacked::latency_of;
 
 fn low(x: u32) -> u8
@@ -40,10 +42,10 @@ fn result_head(n: u8, origin: u8, bound: u32, number: u32, counts: Counts) -> [u
     let apart = counts.apart as u32;
     let upper = number / 256 / 256;
     [
-        82,
-        69,
-        83,
-        49,
+        b'R',
+        b'E',
+        b'S',
+        b'1',
         n,
         origin,
         low(bound),
@@ -93,9 +95,9 @@ fn put_times(n: usize, his: &[u8], early: &[u16], late: &[u16], i: usize, out: &
 {
     let at = 28 + 8 * i;
     if i < n {
-        let x = unpacked::wide(early[5 * i + 2]);
-        let y = unpacked::wide(late[5 * i + 2]);
-        let u = unpacked::wide(late[5 * i + 4]) + 1;
+        let x = unpacked::wide(early[5 * i + EX]);
+        let y = unpacked::wide(late[5 * i + EX]);
+        let u = unpacked::wide(late[5 * i + CM]) + 1;
         put_four(x, y, finish_ex(his, late, i), u, at, out);
     } else {
         put_four(0, 0, 0, 0, at, out);
@@ -131,10 +133,10 @@ pub fn put_result(b: Block, his: &[u8], early: &[u16], late: &[u16], counts: Cou
 // The latest ready time of stage g of instruction i: off EX it is the latest start.
 fn latest_ready(g: usize, x: u8, y: u8, late: &[u16], i: usize) -> u32
     requires { ⌜ (g < 5) × (i < 60) × (length (now late) ≡ 300) × (x ≤ 60) × (y ≤ 60) ⌝ }
-    ensures { λ r. ⌜ (r ≡ pick (eqb g 2) (readyEX x y (now (late .entry)) i) (start (now (late .entry)) (node g i))) × (r ≤ 65536) ⌝ }
+    ensures { λ r. ⌜ (r ≡ pick (eqb g EX) (readyEX x y (now (late .entry)) i) (start (now (late .entry)) (node g i))) × (r ≤ 65536) ⌝ }
 {
     match g {
-        2 => unpacked::ready_ex(x, y, late, i),
+        EX => unpacked::ready_ex(x, y, late, i),
         _ => unpacked::wide(late[5 * i + g]),
     }
 }

@@ -11,7 +11,11 @@ ghost use Rattle.model.specs.Cycles.{started, turns};
 ghost use Rattle.unpacked.specs.inside.UnpackedBlock.{Unpacked};
 ghost use Rattle.play.specs.inside.NodeTurn.{stageReady, fromWhen, ended, can};
 ghost use Rattle.play.specs.inside.PlayFacts.{Chosen, Timed, Units};
+use unpacked::EX;
+use unpacked::ID;
+use unpacked::IF;
 use unpacked::Shape;
+use unpacked::WB;
 use unpacked::larger;
 use unpacked::small;
 use unpacked::time;
@@ -23,10 +27,10 @@ pub fn stage_ready(h: Shape, x: u8, y: u8, l: u8, s: &[u16], i: usize, g: usize)
     ensures { λ r. ⌜ (r ≡ stageReady h x y l (now (s .entry)) i g) × (r ≤ 65790) ⌝ }
 {
     match g {
-        0 => unpacked::ready_if(h, s, i),
-        1 => unpacked::ready_id(h, s, i),
-        2 => unpacked::ready_ex(x, y, s, i),
-        3 => wide(s[5 * i + 2]) + small(l),
+        IF => unpacked::ready_if(h, s, i),
+        ID => unpacked::ready_id(h, s, i),
+        EX => unpacked::ready_ex(x, y, s, i),
+        WB => wide(s[5 * i + EX]) + small(l),
         _ => unpacked::ready_cm(h, s, i),
     }
 }
@@ -35,7 +39,7 @@ pub fn stage_ready(h: Shape, x: u8, y: u8, l: u8, s: &[u16], i: usize, g: usize)
 pub fn from_when(g: usize, r: u32, e: u32) -> u32
     ensures { λ x. ⌜ x ≡ fromWhen g r e ⌝ }
 {
-    if g == 2 { larger(r, e) } else { r }
+    if g == EX { larger(r, e) } else { r }
 }
 
 // When an EX that starts at t and takes l has finished, so that its unit is free.
@@ -51,7 +55,7 @@ pub fn hold(g: usize, k: usize, l: u8, t: u32, ends: &mut [u32])
     requires { ⌜ (t < 65536) × (k < length (now ends)) ⌝ }
     ensures { λ _. ⌜ now (ends .exit) ≡ ended (now (ends .entry)) g k l t ⌝ }
 {
-    if g == 2 {
+    if g == EX {
         ends[k] = until(t, l);
     }
 }
@@ -101,7 +105,7 @@ fn unit_ends(n: usize, kinds: &[u8], lat: &[u8], s: &[u16]) -> [u32; 4]
     let mut ends = [0u32; 4];
     for i in 0..n {
         let k = unpacked::index(kinds[i]);
-        ends[k] = later_end(s[5 * i + 2], lat[i], ends[k]);
+        ends[k] = later_end(s[5 * i + EX], lat[i], ends[k]);
     }
     ends
 }

@@ -19,6 +19,9 @@ use crate::refusals::unfit_state;
 use crate::whole_play::run;
 use record::Answer;
 use record::Block;
+use record::KIND;
+use record::READS1;
+use record::READS2;
 use record::Reason;
 
 // The play table of a block.
@@ -27,9 +30,9 @@ fn table_into(b: Block, lat: &[u8], out: &mut [u16])
     ensures { λ _. ⌜ now (out .exit) ≡ playTable b (chosen b (now (lat .entry))) ++ drop (15 * b .n) (now (out .entry)) ⌝ }
 {
     let h = unpacked::shape_of(b);
-    let kinds = unpacked::column(b, 0);
-    let s1 = unpacked::sources(b, 4);
-    let s2 = unpacked::sources(b, 5);
+    let kinds = unpacked::column(b, KIND);
+    let s1 = unpacked::sources(b, READS1);
+    let s2 = unpacked::sources(b, READS2);
     let mut s = [65535u16; 300];
     run(h, &kinds, lat, &s1, &s2, &mut s);
     put_play(h, lat, &s1, &s2, &s, out);
@@ -41,9 +44,9 @@ fn next_state(b: Block, lat: &[u8], p: PlayState) -> PlayState
     ensures { λ r. ⌜ stateOf r ≡ cycle b (chosen b (now (lat .entry))) (stateOf p) ⌝ }
 {
     let h = unpacked::shape_of(b);
-    let kinds = unpacked::column(b, 0);
-    let s1 = unpacked::sources(b, 4);
-    let s2 = unpacked::sources(b, 5);
+    let kinds = unpacked::column(b, KIND);
+    let s1 = unpacked::sources(b, READS1);
+    let s2 = unpacked::sources(b, READS2);
     let mut s = p.starts;
     cycle_into(h, &kinds, lat, &s1, &s2, unpacked::wide(p.t), &mut s);
     PlayState {

@@ -14,7 +14,9 @@ ghost use Rattle.play.specs.inside.PlayFacts.{Chosen, Running, CyclePlay
 use crate::nodes::from_when;
 use crate::nodes::hold;
 use crate::nodes::stage_ready;
+use unpacked::CM;
 use unpacked::Shape;
+use unpacked::WB;
 use unpacked::index;
 use unpacked::smaller;
 use unpacked::time;
@@ -24,7 +26,7 @@ use unpacked::time;
 fn again(g: usize, r: u32) -> u32
     ensures { λ x. ⌜ x ≡ pick (eqb g 3) r 30780 ⌝ }
 {
-    if g == 3 { r } else { 30780 }
+    if g == WB { r } else { 30780 }
 }
 
 // The next stage of instruction i in cycle t; gives when to look again.
@@ -44,7 +46,7 @@ fn turn(
     ensures { λ r. ⌜ TurnLeaves h x y l k t i (now (s .entry)) (now (stages .entry)) (now (ends .entry)) r (now (s .exit)) (now (stages .exit)) (now (ends .exit)) ⌝ }
 {
     let g = index(stages[i]);
-    if 4 < g {
+    if CM < g {
         return 30780;
     }
     let r = from_when(g, stage_ready(h, x, y, l, s, i, g), ends[k]);

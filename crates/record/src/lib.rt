@@ -13,6 +13,23 @@ pub use writer::block_answer;
 pub use writer::put_head;
 pub use writer::write;
 
+// The bytes of an entry in its record.
+pub const KIND: usize = 0;
+
+pub const LO: usize = 1;
+
+pub const HI: usize = 2;
+
+pub const WRITES: usize = 3;
+
+pub const READS1: usize = 4;
+
+pub const READS2: usize = 5;
+
+pub const ZERO1: usize = 6;
+
+pub const ZERO2: usize = 7;
+
 pub struct Entry {
     pub kind: u8,
     pub lo: u8,

@@ -10,8 +10,15 @@ ghost use Rattle.record.specs.Promises.{Reads};
 use crate::Answer;
 use crate::Block;
 use crate::Entry;
+use crate::HI;
+use crate::LO;
+use crate::READS1;
+use crate::READS2;
 use crate::Reading;
 use crate::Reason;
+use crate::WRITES;
+use crate::ZERO1;
+use crate::ZERO2;
 use crate::check::check_of;
 use crate::check::four_at;
 use crate::rules::entry_ok;
@@ -25,11 +32,11 @@ fn entry_at(s: &[u8], i: usize) -> Entry
     let at = 28 + 8 * i;
     Entry {
         kind: s[at],
-        lo: s[at + 1],
-        hi: s[at + 2],
-        writes: s[at + 3],
-        reads1: s[at + 4],
-        reads2: s[at + 5],
+        lo: s[at + LO],
+        hi: s[at + HI],
+        writes: s[at + WRITES],
+        reads1: s[at + READS1],
+        reads2: s[at + READS2],
     }
 }
 
@@ -41,7 +48,7 @@ fn bytes_ok(s: &[u8], i: usize) -> bool
     let e = entry_at(s, i);
     let at = 28 + 8 * i;
     let ok = entry_ok(s[4], i, e);
-    ok & (s[at + 6] == 0) & (s[at + 7] == 0)
+    ok & (s[at + ZERO1] == 0) & (s[at + ZERO2] == 0)
 }
 
 // The first entry that breaks its rule, or 60. `left` entries are not yet tested.

@@ -9,10 +9,10 @@ use crate::Entry;
 
 // The lowest and the highest allowed value of each header byte.
 const LOW: [u8; 28] = [
-    66,
-    76,
-    75,
-    49,
+    b'B',
+    b'L',
+    b'K',
+    b'1',
     1,
     1,
     1,
@@ -40,10 +40,10 @@ const LOW: [u8; 28] = [
 ];
 
 const HIGH: [u8; 28] = [
-    66,
-    76,
-    75,
-    49,
+    b'B',
+    b'L',
+    b'K',
+    b'1',
     60,
     16,
     32,

@@ -11,7 +11,14 @@ ghost use Rattle.record.specs.Promises.{Writes};
 use crate::Answer;
 use crate::Block;
 use crate::Entry;
+use crate::HI;
+use crate::LO;
+use crate::READS1;
+use crate::READS2;
 use crate::Reason;
+use crate::WRITES;
+use crate::ZERO1;
+use crate::ZERO2;
 use crate::check::seal;
 use crate::rules::entry_ok;
 use crate::rules::header_fault;
@@ -28,10 +35,10 @@ fn head_bytes(b: Block) -> [u8; 28]
     let x2 = (z % 256) as u8;
     let x3 = (u % 256) as u8;
     [
-        66,
-        76,
-        75,
-        49,
+        b'B',
+        b'L',
+        b'K',
+        b'1',
         b.n,
         b.q,
         b.w,
@@ -111,13 +118,13 @@ fn put_entry(e: Entry, at: usize, out: &mut [u8])
     ensures { λ _. ⌜ now (out .exit) ≡ put (now (out .entry)) at (entryBytes e) ⌝ }
 {
     out[at] = e.kind;
-    out[at + 1] = e.lo;
-    out[at + 2] = e.hi;
-    out[at + 3] = e.writes;
-    out[at + 4] = e.reads1;
-    out[at + 5] = e.reads2;
-    out[at + 6] = 0;
-    out[at + 7] = 0;
+    out[at + LO] = e.lo;
+    out[at + HI] = e.hi;
+    out[at + WRITES] = e.writes;
+    out[at + READS1] = e.reads1;
+    out[at + READS2] = e.reads2;
+    out[at + ZERO1] = 0;
+    out[at + ZERO2] = 0;
 }
 
 fn put_entries(b: Block, out: &mut [u8])

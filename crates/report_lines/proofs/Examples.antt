@@ -11,23 +11,24 @@ use Rattle.model.specs.Nodes.{latency, lowest, highest, finishEdges, lastWriter
 use Rattle.model.specs.Paths.{edgesInto, reached, pairs, count, paths, contend, contending}
 use Rattle.model.specs.Cycles.{finish, ready}
 use Rattle.model.specs.Rounds.{earliest, R, rival, latestEX, latestStart, round, apart, new, roundsFrom, pairCount, windows, roundCount, apartCount, bound}
+use Rattle.lists.specs.Bytes.{ascii}
 
--- "at 3 refused 2"
-pub refusal-line : refusalLine 3 2 ≡ 97 ∷ 116 ∷ 32 ∷ 51 ∷ 32 ∷ 114 ∷ 101 ∷ 102 ∷ 117 ∷ 115 ∷ 101 ∷ 100 ∷ 32 ∷ 50 ∷ 10 ∷ []
+-- a record with a wrong check, at index 3
+pub refusal-line : refusalLine 3 2 ≡ ascii "at 3 refused 2\n"
 unfolding digitsOf decimal spaced refusalLine
 refusal-line = refl
 
 -- a report of no records is its header
 pub report-none : report [] ≡ header
-unfolding joined records linesFrom header spaced report
+unfolding joined records linesFrom header report
 report-none = refl
 
--- block E as production block 7: "7 P 4 27 1 1 0"
-pub line-E : blockLine blockE7 ≡ 55 ∷ 32 ∷ 80 ∷ 32 ∷ 52 ∷ 32 ∷ 50 ∷ 55 ∷ 32 ∷ 49 ∷ 32 ∷ 49 ∷ 32 ∷ 48 ∷ 10 ∷ []
+-- "E as production block 7"
+pub line-E : blockLine blockE7 ≡ ascii "7 P 4 27 1 1 0\n"
 unfolding stamped blockE blockE7 digitsOf decimal spaced blockLine tab tabFrom numbersWhere numbersWhereFrom inOrder largest sum none any latency lowest highest finishEdges lastWriter source sources orderEdges into finishInto orderInto edgesInto reached pairs count paths contend contending finish ready earliest R rival latestEX latestStart round apart new roundsFrom pairCount windows roundCount apartCount bound
 line-E = refl
 
--- block F as classroom block 8: "8 C 4 10 2 2 2"
-pub line-F : blockLine blockF8 ≡ 56 ∷ 32 ∷ 67 ∷ 32 ∷ 52 ∷ 32 ∷ 49 ∷ 48 ∷ 32 ∷ 50 ∷ 32 ∷ 50 ∷ 32 ∷ 50 ∷ 10 ∷ []
+-- "F as classroom block 8"
+pub line-F : blockLine blockF8 ≡ ascii "8 C 4 10 2 2 2\n"
 unfolding stamped blockF blockF8 digitsOf decimal spaced blockLine tab tabFrom numbersWhere numbersWhereFrom inOrder largest sum none any latency lowest highest finishEdges lastWriter source sources orderEdges into finishInto orderInto edgesInto reached pairs count paths contend contending finish ready earliest R rival latestEX latestStart round apart new roundsFrom pairCount windows roundCount apartCount bound
 line-F = refl

@@ -21,7 +21,7 @@ use Rattle.analysis.proofs.Outcomes.{analyse-done}
 use Rattle.theorems.specs.Words.{AcceptedBlock, ByteLatencies}
 use Rattle.theorems.proofs.Demand.{bound-limit, rounds-most}
 use Rattle.report_lines.specs.Text.{decimal, spaced}
-use Rattle.report_lines.specs.Report.{countsText}
+use Rattle.report_lines.specs.inside.ResultText.{countsText}
 
 -- ---- how many pairs there are at most
 numbersWhere-most : (p : ℕ → Bool) (i n : ℕ) → length (numbersWhereFrom p i n) ≤ n

@@ -1,3 +1,4 @@
 pub mod Text
 pub mod Report
 pub mod ReportBlocks
+pub mod inside

@@ -1,32 +1,24 @@
--- What the report prints, from "Line one is the header" on.
+-- "The report program reads records from standard input": what it prints, from "Line one is the header" on.
 use Prim.Native.Nat.{ℕ, _+_, _*_, _/_}
+use Prim.Native.Char.{code}
 use mathlib.Core.List.{List, [], _∷_, _++_}
 use lib.ListN.{length, take, drop}
 use lib.Dec.{eqb}
 use Rattle.lists.specs.Lists.{pick, joined}
-use Rattle.lists.specs.Bytes.{little}
+use Rattle.lists.specs.Bytes.{ascii}
 use Rattle.record.specs.Layout.{decoded}
 use Rattle.record.specs.Refusals.{readVerdict, accepts}
 use Rattle.record.specs.declared.Block.{Block}
 use Rattle.model.specs.Rounds.{bound, roundCount, pairCount, apartCount}
 use Rattle.report_lines.specs.Text.{decimal, spaced}
 
--- "block origin n bound rounds pairs apart"
+-- "block origin n bound rounds pairs apart", a line
 unfoldable pub header : List ℕ
-header =
-    spaced
-    ((98 ∷ 108 ∷ 111 ∷ 99 ∷ 107 ∷ [])
-    ∷ (111 ∷ 114 ∷ 105 ∷ 103 ∷ 105 ∷ 110 ∷ [])
-    ∷ (110 ∷ [])
-    ∷ (98 ∷ 111 ∷ 117 ∷ 110 ∷ 100 ∷ [])
-    ∷ (114 ∷ 111 ∷ 117 ∷ 110 ∷ 100 ∷ 115 ∷ [])
-    ∷ (112 ∷ 97 ∷ 105 ∷ 114 ∷ 115 ∷ [])
-    ∷ (97 ∷ 112 ∷ 97 ∷ 114 ∷ 116 ∷ [])
-    ∷ [])
+header = ascii "block origin n bound rounds pairs apart\n"
 
 -- "origin (C or P)": 1 is classroom, 2 production
 abbrev pub letter : ℕ → ℕ
-letter origin = pick (eqb origin 1) 67 80
+letter origin = pick (eqb origin 1) (code "C") (code "P")
 
 -- "per record: block number, origin (C or P), n, bound, rounds, pairs, apart"
 unfoldable pub blockLine : Block → List ℕ
@@ -41,20 +33,9 @@ blockLine b =
     ∷ decimal (apartCount b)
     ∷ [])
 
--- bound, rounds, pairs and pairs apart of a line, out of the bytes of a result record
-unfoldable pub countsText : List ℕ → List ℕ
-countsText s =
-    spaced (decimal (little 2 s 6) ∷ decimal (little 2 s 12) ∷ decimal (little 2 s 14) ∷ decimal (little 2 s 16) ∷ [])
-
 -- "for a refusal, `at`, the record's index from 0, `refused`, its number"
 unfoldable pub refusalLine : ℕ → ℕ → List ℕ
-refusalLine index number =
-    spaced
-    ((97 ∷ 116 ∷ [])
-    ∷ decimal index
-    ∷ (114 ∷ 101 ∷ 102 ∷ 117 ∷ 115 ∷ 101 ∷ 100 ∷ [])
-    ∷ decimal number
-    ∷ [])
+refusalLine index number = spaced (ascii "at" ∷ decimal index ∷ ascii "refused" ∷ decimal number ∷ [])
 
 -- the line of the bytes s as the record at an index
 unfoldable pub line : ℕ → List ℕ → List ℕ

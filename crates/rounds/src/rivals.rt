@@ -10,6 +10,7 @@ ghost use Rattle.lists.specs.Lists.{pick, numbersWhere, least, kept};
 ghost use Rattle.lists.specs.Sums.{largest, sum, any};
 ghost use Rattle.rounds.specs.inside.PairRows.{row, Rows, apartEX};
 use crate::times::finish_ex;
+use unpacked::EX;
 use unpacked::index;
 
 fn larger_byte(a: u8, b: u8) -> u8
@@ -57,7 +58,7 @@ fn apart_at(his: &[u8], early: &[u16], late: &[u16], i: usize, j: usize) -> bool
 {
     let x = finish_ex(his, late, i);
     let y = finish_ex(his, late, j);
-    (x <= unpacked::wide(early[5 * j + 2])) | (y <= unpacked::wide(early[5 * i + 2]))
+    (x <= unpacked::wide(early[5 * j + EX])) | (y <= unpacked::wide(early[5 * i + EX]))
 }
 
 // The first instruction whose row has one that is apart from it, or n.

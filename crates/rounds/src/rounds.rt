@@ -16,6 +16,7 @@ use crate::rivals::keep_rows;
 use crate::rivals::pairs_of;
 use crate::times::round_into;
 use record::Block;
+use record::KIND;
 
 // Rounds until one finds no new pair apart. The rows come as the contending pairs and go as those that are not apart; late
 // goes as the latest starts. The result is the last round's number.
@@ -66,7 +67,7 @@ pub fn refine(b: Block, his: &[u8], s1: &[u8], s2: &[u8], early: &[u16], late: &
 {
     let h = unpacked::shape_of(b);
     let n = h.n;
-    let kinds = unpacked::column(b, 0);
+    let kinds = unpacked::column(b, KIND);
     let mut list = [0u8; 3600];
     let mut count = [0usize; 60];
     contenders_into(h, &kinds, s1, s2, &mut list, &mut count);

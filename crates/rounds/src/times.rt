@@ -12,7 +12,11 @@ ghost use Rattle.unpacked.specs.inside.UnpackedBlock.{Unpacked};
 ghost use Rattle.rounds.specs.inside.PairRows.{Rows, Even, finishEX};
 ghost use Rattle.rounds.specs.inside.FiveStarts.{fetched, committed, latestOf};
 use crate::rivals::later_of;
+use unpacked::CM;
+use unpacked::EX;
+use unpacked::ID;
 use unpacked::Shape;
+use unpacked::WB;
 use unpacked::index;
 use unpacked::small;
 use unpacked::smaller;
@@ -25,7 +29,7 @@ fn fetch_into(h: Shape, s: &mut [u16], i: usize)
     let a = unpacked::ready_if(h, s, i);
     s[5 * i] = unpacked::time(a);
     let b = unpacked::ready_id(h, s, i);
-    s[5 * i + 1] = unpacked::time(b);
+    s[5 * i + ID] = unpacked::time(b);
 }
 
 // EX, WB and CM of instruction i, whose EX starts at x and takes l.
@@ -33,10 +37,10 @@ fn commit_into(h: Shape, l: u32, x: u32, s: &mut [u16], i: usize)
     requires { ⌜ (i < 60) × (5 * i + 5 ≤ length (now s)) × (l ≤ 255) × (x ≤ 1000000) ⌝ }
     ensures { λ _. ⌜ now (s .exit) ≡ committed (h .c) l x (now (s .entry)) i ⌝ }
 {
-    s[5 * i + 2] = unpacked::time(x);
-    s[5 * i + 3] = unpacked::time(x + l);
+    s[5 * i + EX] = unpacked::time(x);
+    s[5 * i + WB] = unpacked::time(x + l);
     let c = unpacked::ready_cm(h, s, i);
-    s[5 * i + 4] = unpacked::time(c);
+    s[5 * i + CM] = unpacked::time(c);
 }
 
 // The earliest starts.
@@ -84,7 +88,7 @@ pub fn finish_ex(his: &[u8], s: &[u16], i: usize) -> u32
     requires { ⌜ (i < length (now his)) × (5 * i + 2 < length (now s)) × (i < 60) ⌝ }
     ensures { λ r. ⌜ (r ≡ finishEX (now (his .entry)) (now (s .entry)) i) × (r ≤ 65790) ⌝ }
 {
-    unpacked::wide(s[5 * i + 2]) + small(his[i])
+    unpacked::wide(s[5 * i + EX]) + small(his[i])
 }
 
 // B: most is the largest latency of the later ones, 0 where there are none.

@@ -84,8 +84,5 @@ pub fn sums() {
         x = next(x);
     }
     count(b"crowded blocks", 300);
-    count(
-        b"  sum over result records and window tables",
-        sum as usize,
-    );
+    count(b"  sum over result records and window tables", sum as usize);
 }

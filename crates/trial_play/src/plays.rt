@@ -89,10 +89,7 @@ pub fn run() {
         t = played(t, b, x, k % 3 == 0);
     }
     count(b"plays of crowded blocks", 300);
-    count(
-        b"  sum over play tables and lengths",
-        t.plays as usize,
-    );
+    count(b"  sum over play tables and lengths", t.plays as usize);
     count(b"  short ones stepped through", t.stepped);
     count(b"  to the same starts", t.same);
     count(b"  sum over their states", t.states as usize);

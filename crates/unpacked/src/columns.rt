@@ -8,6 +8,11 @@ ghost use Rattle.unpacked.specs.inside.UnpackedBlock.{Shapes, code};
 use crate::Shape;
 use record::Block;
 use record::Entry;
+use record::HI;
+use record::KIND;
+use record::LO;
+use record::READS1;
+use record::WRITES;
 
 // The header's numbers; and no latency of a value of the code is above 255.
 pub fn shape_of(b: Block) -> Shape
@@ -23,17 +28,17 @@ pub fn shape_of(b: Block) -> Shape
     }
 }
 
-// Byte k of an entry, 0 kind to 5 second register read.
+// Byte k of an entry, from KIND to READS2.
 fn byte_of(e: Entry, k: usize) -> u8
     requires { ⌜ k ≤ 5 ⌝ }
     ensures { λ r. ⌜ r ≡ byteOf e k ⌝ }
 {
     match k {
-        0 => e.kind,
-        1 => e.lo,
-        2 => e.hi,
-        3 => e.writes,
-        4 => e.reads1,
+        KIND => e.kind,
+        LO => e.lo,
+        HI => e.hi,
+        WRITES => e.writes,
+        READS1 => e.reads1,
         _ => e.reads2,
     }
 }

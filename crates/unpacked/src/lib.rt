@@ -19,6 +19,17 @@ pub use stages::ready_ex;
 pub use stages::ready_id;
 pub use stages::ready_if;
 
+// The stages of an instruction, in node order: stage g of instruction i is node 5 i + g.
+pub const IF: usize = 0;
+
+pub const ID: usize = 1;
+
+pub const EX: usize = 2;
+
+pub const WB: usize = 3;
+
+pub const CM: usize = 4;
+
 // The header's numbers, as indices.
 pub struct Shape {
     pub n: usize,

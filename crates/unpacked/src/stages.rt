@@ -4,18 +4,24 @@ ghost use Prim.Native.Nat.{_+_, _*_, _≤_, _<_};
 ghost use lib.ListN.{length};
 ghost use lib.Dec.{eqb};
 ghost use Rattle.lists.specs.Lists.{pick};
+ghost use Rattle.model.specs.Nodes.{EX as stage-EX};
 ghost use Rattle.unpacked.specs.inside.ReadyByStage.{finishBack, startBack, finishSource, readyIF, readyID, readyEX, readyCM};
+use crate::CM;
+use crate::EX;
+use crate::ID;
+use crate::IF;
 use crate::Shape;
+use crate::WB;
 use crate::numbers::larger;
 use crate::numbers::small;
 use crate::numbers::wide;
 
 // The latency of stage g, x being that of its instruction's EX.
 pub fn latency_of(g: usize, x: u8) -> u32
-    ensures { λ r. ⌜ (r ≡ pick (eqb g 2) x 1) × (r ≤ 255) ⌝ }
+    ensures { λ r. ⌜ (r ≡ pick (eqb g stage-EX) x 1) × (r ≤ 255) ⌝ }
 {
     match g {
-        2 => small(x),
+        EX => small(x),
         _ => 1,
     }
 }
@@ -44,7 +50,7 @@ fn finish_source(s: &[u16], x: u8) -> u32
 {
     if 0 < x {
         let j = (x - 1) as usize;
-        wide(s[5 * j + 3]) + 1
+        wide(s[5 * j + WB]) + 1
     } else {
         0
     }
@@ -54,17 +60,17 @@ pub fn ready_if(h: Shape, s: &[u16], i: usize) -> u32
     requires { ⌜ (i < 60) × (5 * i + 5 ≤ length (now s)) ⌝ }
     ensures { λ r. ⌜ (r ≡ readyIF (h .q) (h .f) (now (s .entry)) i) × (r ≤ 65536) ⌝ }
 {
-    let x = larger(finish_back(s, 1, h.q, i), finish_back(s, 0, h.f, i));
-    larger(x, start_back(s, 0, i))
+    let x = larger(finish_back(s, ID, h.q, i), finish_back(s, IF, h.f, i));
+    larger(x, start_back(s, IF, i))
 }
 
 pub fn ready_id(h: Shape, s: &[u16], i: usize) -> u32
     requires { ⌜ (i < 60) × (5 * i + 5 ≤ length (now s)) ⌝ }
     ensures { λ r. ⌜ (r ≡ readyID (h .w) (h .d) (now (s .entry)) i) × (r ≤ 65536) ⌝ }
 {
-    let x = larger(finish_back(s, 4, h.w, i), finish_back(s, 1, h.d, i));
+    let x = larger(finish_back(s, CM, h.w, i), finish_back(s, ID, h.d, i));
     let y = larger(wide(s[5 * i]) + 1, x);
-    larger(y, start_back(s, 1, i))
+    larger(y, start_back(s, ID, i))
 }
 
 pub fn ready_ex(x: u8, y: u8, s: &[u16], i: usize) -> u32
@@ -73,13 +79,13 @@ pub fn ready_ex(x: u8, y: u8, s: &[u16], i: usize) -> u32
     ensures { λ r. ⌜ (r ≡ readyEX x y (now (s .entry)) i) × (r ≤ 65536) ⌝ }
 {
     let z = larger(finish_source(s, x), finish_source(s, y));
-    larger(wide(s[5 * i + 1]) + 1, z)
+    larger(wide(s[5 * i + ID]) + 1, z)
 }
 
 pub fn ready_cm(h: Shape, s: &[u16], i: usize) -> u32
     requires { ⌜ (i < 60) × (5 * i + 5 ≤ length (now s)) ⌝ }
     ensures { λ r. ⌜ (r ≡ readyCM (h .c) (now (s .entry)) i) × (r ≤ 65536) ⌝ }
 {
-    let x = larger(wide(s[5 * i + 3]) + 1, finish_back(s, 4, h.c, i));
-    larger(x, start_back(s, 4, i))
+    let x = larger(wide(s[5 * i + WB]) + 1, finish_back(s, CM, h.c, i));
+    larger(x, start_back(s, CM, i))
 }

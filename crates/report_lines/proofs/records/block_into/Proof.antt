@@ -5,7 +5,8 @@ use mathlib.Core.List.{[], _∷_}
 use native.Mathlib.Omega.{arith}
 use Rattle.model.specs.Rounds.{bound, roundCount, pairCount, apartCount}
 use Rattle.report_lines.specs.Text.{decimal, spaced}
-use Rattle.report_lines.specs.Report.{letter, countsText, blockLine}
+use Rattle.report_lines.specs.inside.ResultText.{countsText}
+use Rattle.report_lines.specs.Report.{letter, blockLine}
 use Rattle.report_lines.proofs.ResultCounts.{counts-carried}
 use Rattle.report_lines.proofs.TextsInOrder.{Fields, number-field, more-fields}
 use borrow.Author.Needs.{needs}

@@ -4,7 +4,7 @@ use mathlib.Core.List.{[], _∷_}
 use native.Mathlib.Omega.{arith}
 use Rattle.lists.specs.Bytes.{little}
 use Rattle.report_lines.specs.Text.{decimal}
-use Rattle.report_lines.specs.Report.{countsText}
+use Rattle.report_lines.specs.inside.ResultText.{countsText}
 use Rattle.report_lines.proofs.TextsInOrder.{Fields, number-field, last-field, more-fields}
 use borrow.Author.Needs.{needs}
 use Rattle.report_lines.proofs.records.counts_into.Statement.{statement}
