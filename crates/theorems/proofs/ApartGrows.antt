@@ -28,7 +28,7 @@ use Rattle.model.proofs.PairSets.{count-ext, count-zero}
 use Rattle.model.proofs.RoundsEnd.{windows-settled}
 use Rattle.model.proofs.Latencies.{lowest-some}
 use Rattle.model.proofs.RoundRules.{Clear, apart-clear, clear-apart}
-use Rattle.schedules.proofs.Counting.{wt}
+use Rattle.schedules.specs.inside.Counts.{valueIf}
 use Rattle.schedules.proofs.BlockNet.{ready-done, done-ready, sum-more}
 use Rattle.theorems.specs.RoundByRound.{knownAt, lateAt, apartBy, apartAt}
 use Rattle.theorems.proofs.KnownPairs.{found, none-first, found-apart, apart-found, kept-or-found, kept, found-known, last-round}
@@ -46,7 +46,7 @@ module _ (p q : ℕ → Bool) (n : ℕ) (fewer : (k : ℕ) → k < n → p k ≡
       let j = in-numbersWhere q a c (w .0) (k .0) (k .1) (fewer (w .0) (omega (arith, k .1)) (k .2)) in
       omega (arith, w .2, h (w .0) (k .1), largest-in (map g (numbersWhere a c q)) (g (w .0)) (map-in g (w .0) (numbersWhere a c q) j)))
 
-  one-fewer : (k x : ℕ) → k < n → wt (p k) x ≤ wt (q k) x
+  one-fewer : (k x : ℕ) → k < n → valueIf (p k) x ≤ valueIf (q k) x
   one-fewer k x l = by-test (p k) (λ t. rw (t, fewer k l t) (omega arith)) (λ f. rw f (omega arith))
 
   sum-fewer : (f : ℕ → ℕ) (c : ℕ) → c ≤ n → sum (map f (numbersWhere 0 c p)) ≤ sum (map f (numbersWhere 0 c q))

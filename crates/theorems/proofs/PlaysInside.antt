@@ -18,7 +18,7 @@ use Rattle.model.specs.Rounds.{earliest, R, windows}
 use Rattle.model.proofs.TimesInOrder.{earliest-is}
 use Rattle.model.proofs.Limits.{windows-limit}
 use Rattle.model.proofs.Latencies.{latency-mono, lowest-some, lowest-highest}
-use Rattle.schedules.proofs.Net.{Fits, Sched}
+use Rattle.schedules.specs.inside.Nets.{Fits, Sched}
 use Rattle.schedules.proofs.RoundsBound.{early-ready}
 use Rattle.schedules.proofs.BlockNet.{ready-done, done-ready}
 use Rattle.schedules.proofs.CycleTurns.{seen, started-yes}
