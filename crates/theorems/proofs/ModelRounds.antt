@@ -56,7 +56,8 @@ module _ (b : Block) (A : Ranges b) where
   pub earliest-early : Early G (start (earliest b))
   earliest-early =
       record {
-        least = λ v x l f o. omega (arith, earliest-is b A v l, done-ready b A (lowest b) (lowest-some b A) (lowest b) (earliest b) v x (record { fin = f; ord = o }));
+        least = λ v x l f o.
+            omega (arith, earliest-is b A v l, done-ready b A (lowest b) (lowest-some b A) (lowest b) (earliest b) v x (record { fin = f; ord = o }));
       }
 
   -- ---- paths of the model are paths of the net
@@ -198,7 +199,8 @@ module _ (b : Block) (known : Pairs) where
               rw d (omega (arith, w, ap (λ (x : ℕ). start late x + highest b x) e))
 
       -- so the latest start allows for both bounds. The sum is not divided among the units, and undivided it is no less
-      EX-late : min (B + early-sum (G b A) delays v / G b A .units (G b A .kind v)) (max B (early-last (G b A) delays (λ u. start late u + highest b u) v)) ≤ start late v
+      EX-late : min (B + early-sum (G b A) delays v / G b A .units (G b A .kind v)) (max B (early-last (G b A) delays (λ u. start late u + highest b u) v))
+          ≤ start late v
       EX-late = omega (arith, at-EX, base-most, sum-most, last-most, div-le-self (early-sum (G b A) delays v) (G b A .units (G b A .kind v)))
 
     pub off-EX : (v : ℕ) → v < nodes b → isEX v ≡ false → start late v ≡ R b late v

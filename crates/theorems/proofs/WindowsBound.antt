@@ -60,7 +60,7 @@ module _ (b : Block) (A : Ranges b) (lat : ℕ → ℕ) (F : Fits (G b A) lat) (
     -- so the pairs known in the next round are apart too
     next-sound : Sound (suc k)
     unfolding apartBy
-    next-sound u v lu lv p = go (kept-or-found b k i j (omega arith) (omega arith) (p .known-so))
+    next-sound u v lu lv p = by-round (kept-or-found b k i j (omega arith) (omega arith) (p .known-so))
       where
         i : ℕ
         i = instruction v
@@ -68,9 +68,10 @@ module _ (b : Block) (A : Ranges b) (lat : ℕ → ℕ) (F : Fits (G b A) lat) (
         j : ℕ
         j = instruction u
 
-        go : (has (knownAt b k) i j ≡ true) ⊎ (found b k i j ≡ true) → (s u + lat u ≤ start (earliest b) v) ⊎ (s v + lat v ≤ start (earliest b) u)
-        go (inl t) = S u v lu lv (record { u-EX = p .u-EX; v-EX = p .v-EX; known-so = t })
-        go (inr t) =
+        by-round : (has (knownAt b k) i j ≡ true) ⊎ (found b k i j ≡ true)
+            → (s u + lat u ≤ start (earliest b) v) ⊎ (s v + lat v ≤ start (earliest b) u)
+        by-round (inl t) = S u v lu lv (record { u-EX = p .u-EX; v-EX = p .v-EX; known-so = t })
+        by-round (inr t) =
             let c = and-right (has (contending b) i j) (apart b (earliest b) late i j) (found-apart b k i j t) in
             found-sound u v lu lv (p .u-EX) (p .v-EX) (apart-clear b (earliest b) late i j c)
 
