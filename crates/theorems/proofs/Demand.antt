@@ -64,7 +64,7 @@ module _ (b : Block) (accepted : AcceptedBlock b) (bytes : ByteLatencies b) wher
     pub by-bound : playLength b lat ≤ bound b
     by-bound = length-bound b accepted bytes lat (chosen-fits b accepted l listed)
 
-  -- "the bound is at most 513 cycles per instruction"
+  -- "the bound is at most 513 cycles per instruction", so 30,780
   pub bound-limit : (bound b ≤ 513 * b .n) × (513 * b .n ≤ 30780)
   bound-limit = (model-limit b (ranges b accepted) bytes, omega (arith, ranges b accepted .n .1))
 
