@@ -19,8 +19,8 @@ use Rattle.record.proofs.AcceptedRanges.{Ranges}
 use Rattle.model.specs.Nodes.{EX, nodes, node, stage, instruction, isEX, entry, highest, finishInto, orderInto}
 use Rattle.model.specs.Cycles.{start, finish, units, ready}
 use Rattle.model.proofs.Predecessors.{finish-below, order-below, order-off-EX}
-use Rattle.schedules.proofs.Counting.{wt, sumN, count}
-use Rattle.schedules.proofs.Net.{Net, Done}
+use Rattle.schedules.specs.inside.Counts.{valueIf, sumBelow, countBelow}
+use Rattle.schedules.specs.inside.Nets.{Net, Done}
 
 -- ---- a test that passes, said in two ways
 pub T-true : (t : Bool) → T t → t ≡ true
@@ -69,17 +69,19 @@ module _ (b : Block) (A : Ranges b) (lo : ℕ → ℕ) (pos : (v : ℕ) → v < 
   done-ready x d =
       omega (
         arith,
-        largest-most x (map (finish lat s) (finishInto b v)) (λ y i. let r = in-map (finish lat s) y (finishInto b v) i in omega (arith, r .2, d .fin (r .0) (r .1))),
-        largest-most x (map (start s) (orderInto b v)) (λ y i. let r = in-map (start s) y (orderInto b v) i in omega (arith, r .2, d .ord (r .0) (r .1))),
+        largest-most x (map (finish lat s) (finishInto b v))
+            (λ y i. let r = in-map (finish lat s) y (finishInto b v) i in omega (arith, r .2, d .fin (r .0) (r .1))),
+        largest-most x (map (start s) (orderInto b v))
+            (λ y i. let r = in-map (start s) y (orderInto b v) i in omega (arith, r .2, d .ord (r .0) (r .1))),
       )
 
 -- ---- what is summed over nodes all of which are EX is summed over their instructions
-one-more : (t : Bool) (g : ℕ → ℕ) (k : ℕ) → sum (map g (pick t (k ∷ []) [])) ≡ wt t (g k)
+one-more : (t : Bool) (g : ℕ → ℕ) (k : ℕ) → sum (map g (pick t (k ∷ []) [])) ≡ valueIf t (g k)
 unfolding sum
 one-more true g k = omega arith
 one-more false g k = refl
 
-pub sum-more : (q : ℕ → Bool) (g : ℕ → ℕ) (n : ℕ) → sum (map g (numbersWhere 0 (suc n) q)) ≡ sum (map g (numbersWhere 0 n q)) + wt (q n) (g n)
+pub sum-more : (q : ℕ → Bool) (g : ℕ → ℕ) (n : ℕ) → sum (map g (numbersWhere 0 (suc n) q)) ≡ sum (map g (numbersWhere 0 n q)) + valueIf (q n) (g n)
 sum-more q g n =
     rw (
       ← add-one n,
@@ -89,18 +91,18 @@ sum-more q g n =
       one-more (q n) g n,
     ) refl
 
-module _ (p : ℕ → Bool) (off : (u : ℕ) → isEX u ≡ false → p u ≡ false) where
+module _ (p : ℕ → Bool) (only-EX : (u : ℕ) → isEX u ≡ false → p u ≡ false) where
   module _ (f : ℕ → ℕ) where
-    none-off : (u : ℕ) → (stage u ≡ EX → ⊥) → wt (p u) (f u) ≡ 0
-    none-off u h = let e = off u (ne-eqb (stage u) EX h) in rw e refl
+    none-off : (u : ℕ) → (stage u ≡ EX → ⊥) → valueIf (p u) (f u) ≡ 0
+    none-off u h = let e = only-EX u (ne-eqb (stage u) EX h) in rw e refl
 
-    pub sum-EX : (n : ℕ) → sumN (5 * n) (λ u. wt (p u) (f u)) ≡ sum (map (λ j. f (node EX j)) (numbersWhere 0 n (λ j. p (node EX j))))
-    unfolding sumN sum
+    pub sum-EX : (n : ℕ) → sumBelow (5 * n) (λ u. valueIf (p u) (f u)) ≡ sum (map (λ j. f (node EX j)) (numbersWhere 0 n (λ j. p (node EX j))))
+    unfolding sumBelow sum
     sum-EX zero = rw numbersWhere-none refl
     sum-EX (suc n) =
         let e : 5 * suc n ≡ suc (suc (suc (suc (suc (5 * n))))) = omega arith in
         let m : 5 * n + 2 ≡ suc (suc (5 * n)) = omega arith in
-        let same = ap (λ (u : ℕ). wt (p u) (f u)) m in
+        let same = ap (λ (u : ℕ). valueIf (p u) (f u)) m in
         rw e
         omega (
           arith,
@@ -117,5 +119,5 @@ module _ (p : ℕ → Bool) (off : (u : ℕ) → isEX u ≡ false → p u ≡ fa
   ones [] = refl
   ones (x ∷ xs) = omega (arith, ones xs)
 
-  pub count-EX : (n : ℕ) → count (5 * n) p ≡ length (numbersWhere 0 n (λ j. p (node EX j)))
+  pub count-EX : (n : ℕ) → countBelow (5 * n) p ≡ length (numbersWhere 0 n (λ j. p (node EX j)))
   count-EX n = sum-EX (λ u. 1) n ∙ ones (numbersWhere 0 n (λ j. p (node EX j)))

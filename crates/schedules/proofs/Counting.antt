@@ -1,4 +1,4 @@
--- Sums, counts and maxima over the numbers below n, and the counting lemma: where at each of k times at least m of n windows
+-- Laws of sums, counts and largest values below n, and the counting lemma: where at each of k times at least m of n windows
 -- are open, the windows' lengths add up to at least m * k. Assumes nothing.
 use Prim.Native.Nat.{ℕ, zero, suc, _+_, _*_, _-_, _≤_, _<_, min, max}
 use mathlib.Core.Path.{_≡_, refl, ap}
@@ -7,102 +7,85 @@ use native.Mathlib.Omega.{arith}
 use native.Mathlib.Nat.{le-max-right, max-le}
 use native.Mathlib.Decide.{decLe}
 use lib.Dec.{T}
+use Rattle.schedules.specs.inside.Counts.{valueIf, sumBelow, largestBelow, countBelow}
 
--- x where the test passes, else 0
-abbrev pub wt : Bool → ℕ → ℕ
-wt true x = x
-wt false x = zero
+pub valueIf-on : (b : Bool) (x : ℕ) → T b → valueIf b x ≡ x
+valueIf-on true x t = refl
+valueIf-on false x t = absurd t
 
-pub wt-on : (b : Bool) (x : ℕ) → T b → wt b x ≡ x
-wt-on true x t = refl
-wt-on false x t = absurd t
+pub valueIf-mono : (b c : Bool) (x y : ℕ) → (T b → T c) → x ≤ y → valueIf b x ≤ valueIf c y
+valueIf-mono true true x y h l = l
+valueIf-mono true false x y h l = absurd (h tt)
+valueIf-mono false c x y h l = omega arith
 
-pub wt-mono : (b c : Bool) (x y : ℕ) → (T b → T c) → x ≤ y → wt b x ≤ wt c y
-wt-mono true true x y h l = l
-wt-mono true false x y h l = absurd (h tt)
-wt-mono false c x y h l = omega arith
-
--- the sum of f below n
-unfoldable pub sumN : ℕ → (ℕ → ℕ) → ℕ
-sumN zero f = zero
-sumN (suc n) f = sumN n f + f n
-
--- the largest of f below n, 0 of none
-unfoldable pub maxN : ℕ → (ℕ → ℕ) → ℕ
-maxN zero f = zero
-maxN (suc n) f = max (maxN n f) (f n)
-
--- how many numbers below n pass a test
-abbrev pub count : ℕ → (ℕ → Bool) → ℕ
-count n p = sumN n (λ u. wt (p u) 1)
-
-pub sum-le : (n : ℕ) (f g : ℕ → ℕ) → ((i : ℕ) → i < n → f i ≤ g i) → sumN n f ≤ sumN n g
-unfolding sumN
+pub sum-le : (n : ℕ) (f g : ℕ → ℕ) → ((i : ℕ) → i < n → f i ≤ g i) → sumBelow n f ≤ sumBelow n g
+unfolding sumBelow
 sum-le zero f g h = omega arith
 sum-le (suc n) f g h = omega (arith, sum-le n f g (λ i l. h i (omega arith)), h n (omega arith))
 
 -- what is 0 from m on is summed below m
-pub sum-front : (m n : ℕ) (f : ℕ → ℕ) → m ≤ n → ((i : ℕ) → m ≤ i → f i ≡ 0) → sumN n f ≡ sumN m f
-unfolding sumN
+pub sum-front : (m n : ℕ) (f : ℕ → ℕ) → m ≤ n → ((i : ℕ) → m ≤ i → f i ≡ 0) → sumBelow n f ≡ sumBelow m f
+unfolding sumBelow
 sum-front m zero f l h = let e : m ≡ 0 = omega arith in rw e refl
-sum-front m (suc n) f l h = go (decLe m n) (λ k. sum-front m n f k h)
+sum-front m (suc n) f l h = with-last (decLe m n) (λ k. sum-front m n f k h)
   where
-    go : Dec (m ≤ n) → (m ≤ n → sumN n f ≡ sumN m f) → sumN n f + f n ≡ sumN m f
-    go (yes k) ih = omega (arith, ih k, h n k)
-    go (no k) ih = let e : m ≡ suc n = omega arith in rw e refl
+    with-last : Dec (m ≤ n) → (m ≤ n → sumBelow n f ≡ sumBelow m f) → sumBelow n f + f n ≡ sumBelow m f
+    with-last (yes k) ih = omega (arith, ih k, h n k)
+    with-last (no k) ih = let e : m ≡ suc n = omega arith in rw e refl
 
-pub sum-add : (n : ℕ) (f g : ℕ → ℕ) → sumN n (λ i. f i + g i) ≡ sumN n f + sumN n g
-unfolding sumN
+pub sum-add : (n : ℕ) (f g : ℕ → ℕ) → sumBelow n (λ i. f i + g i) ≡ sumBelow n f + sumBelow n g
+unfolding sumBelow
 sum-add zero f g = refl
 sum-add (suc n) f g = omega (arith, sum-add n f g)
 
-pub count-mono : (n : ℕ) (p q : ℕ → Bool) → ((u : ℕ) → u < n → T (p u) → T (q u)) → count n p ≤ count n q
-count-mono n p q h = sum-le n _ _ (λ u l. wt-mono (p u) (q u) 1 1 (h u l) (omega arith))
+pub count-mono : (n : ℕ) (p q : ℕ → Bool) → ((u : ℕ) → u < n → T (p u) → T (q u)) → countBelow n p ≤ countBelow n q
+count-mono n p q h = sum-le n _ _ (λ u l. valueIf-mono (p u) (q u) 1 1 (h u l) (omega arith))
 
 -- what is counted is found
-pub count-find : (n : ℕ) (p : ℕ → Bool) → zero < count n p → (u : ℕ) × (u < n) × T (p u)
-unfolding sumN
+pub count-find : (n : ℕ) (p : ℕ → Bool) → zero < countBelow n p → (u : ℕ) × (u < n) × T (p u)
+unfolding sumBelow
 count-find zero p h = absurd (omega arith)
-count-find (suc n) p h = go (p n) refl (count-find n p)
+count-find (suc n) p h = found (p n) refl (count-find n p)
   where
-    go : (b : Bool) → p n ≡ b → (zero < count n p → (u : ℕ) × (u < n) × T (p u)) → (u : ℕ) × (u < suc n) × T (p u)
-    go true e ih = (n, omega arith, rw e tt)
-    go false e ih =
-        let r = ih (omega (arith, ap (λ (b : Bool). wt b 1) e)) in
+    found : (b : Bool) → p n ≡ b → (zero < countBelow n p → (u : ℕ) × (u < n) × T (p u)) → (u : ℕ) × (u < suc n) × T (p u)
+    found true e ih = (n, omega arith, rw e tt)
+    found false e ih =
+        let r = ih (omega (arith, ap (λ (b : Bool). valueIf b 1) e)) in
         (r .0, omega (arith, r .1), r .2)
 
-pub max-ge : (n : ℕ) (f : ℕ → ℕ) (u : ℕ) → u < n → f u ≤ maxN n f
-unfolding maxN
+pub max-ge : (n : ℕ) (f : ℕ → ℕ) (u : ℕ) → u < n → f u ≤ largestBelow n f
+unfolding largestBelow
 max-ge zero f u l = absurd (omega arith)
-max-ge (suc n) f u l = go (decLe n u) (max-ge n f u)
+max-ge (suc n) f u l = at-most-largest (decLe n u) (max-ge n f u)
   where
-    go : Dec (n ≤ u) → (u < n → f u ≤ maxN n f) → f u ≤ max (maxN n f) (f n)
-    go (yes h) ih = let e : u ≡ n = omega arith in rw e (le-max-right (maxN n f) (f n))
-    go (no h) ih = omega (arith, ih (omega arith))
+    at-most-largest : Dec (n ≤ u) → (u < n → f u ≤ largestBelow n f) → f u ≤ max (largestBelow n f) (f n)
+    at-most-largest (yes h) ih = let e : u ≡ n = omega arith in rw e (le-max-right (largestBelow n f) (f n))
+    at-most-largest (no h) ih = omega (arith, ih (omega arith))
 
-pub max-least : (n : ℕ) (f : ℕ → ℕ) (x : ℕ) → ((u : ℕ) → u < n → f u ≤ x) → maxN n f ≤ x
-unfolding maxN
+pub max-least : (n : ℕ) (f : ℕ → ℕ) (x : ℕ) → ((u : ℕ) → u < n → f u ≤ x) → largestBelow n f ≤ x
+unfolding largestBelow
 max-least zero f x h = omega arith
 max-least (suc n) f x h = max-le (max-least n f x (λ u l. h u (omega arith))) (h n (omega arith))
 
 -- of the k times from a on, at most l lie in the window of length l at x
-window : (k a x l : ℕ) (q : ℕ → Bool) → ((i : ℕ) → i < k → T (q i) → (x ≤ a + i) × (a + i < x + l)) → sumN k (λ i. wt (q i) 1) ≤ min l (a + k - x)
-unfolding sumN
+window : (k a x l : ℕ) (q : ℕ → Bool) → ((i : ℕ) → i < k → T (q i) → (x ≤ a + i) × (a + i < x + l)) → sumBelow k (λ i. valueIf (q i) 1) ≤ min l (a + k - x)
+unfolding sumBelow
 window zero a x l q h = omega arith
-window (suc k) a x l q h = go (q k) refl (window k a x l q (λ i g. h i (omega arith)))
+window (suc k) a x l q h = open-so-far (q k) refl (window k a x l q (λ i g. h i (omega arith)))
   where
-    go : (b : Bool) → q k ≡ b → sumN k (λ i. wt (q i) 1) ≤ min l (a + k - x) → sumN k (λ i. wt (q i) 1) + wt (q k) 1 ≤ min l (a + suc k - x)
-    go true e ih = rw e (let w = h k (omega arith) (rw e tt) in omega arith)
-    go false e ih = rw e (omega arith)
+    open-so-far : (b : Bool) → q k ≡ b → sumBelow k (λ i. valueIf (q i) 1) ≤ min l (a + k - x)
+        → sumBelow k (λ i. valueIf (q i) 1) + valueIf (q k) 1 ≤ min l (a + suc k - x)
+    open-so-far true e ih = rw e (let w = h k (omega arith) (rw e tt) in omega arith)
+    open-so-far false e ih = rw e (omega arith)
 
 -- the two sums swapped, one time after the other
-swap : (n k : ℕ) (p : ℕ → ℕ → Bool) (m : ℕ) → ((i : ℕ) → i < k → m ≤ count n (p i)) → m * k ≤ sumN n (λ u. sumN k (λ i. wt (p i u) 1))
-unfolding sumN
+swap : (n k : ℕ) (p : ℕ → ℕ → Bool) (m : ℕ) → ((i : ℕ) → i < k → m ≤ countBelow n (p i)) → m * k ≤ sumBelow n (λ u. sumBelow k (λ i. valueIf (p i u) 1))
+unfolding sumBelow
 swap n zero p m h = omega arith
 swap n (suc k) p m h =
     omega (
       arith,
-      sum-add n (λ u. sumN k (λ i. wt (p i u) 1)) (λ u. wt (p k u) 1),
+      sum-add n (λ u. sumBelow k (λ i. valueIf (p i u) 1)) (λ u. valueIf (p k u) 1),
       swap n k p m (λ i l. h i (omega arith)),
       h k (omega arith),
     )
@@ -111,12 +94,12 @@ swap n (suc k) p m h =
 -- x u on, and l u long. Summed over the times, the open windows are m * k at least. Summed over the windows first, each is open
 -- at no more of the times than it is long
 pub area : (n m a k : ℕ) (p : ℕ → ℕ → Bool) (x l : ℕ → ℕ)
-    → ((i : ℕ) → i < k → m ≤ count n (p i))
+    → ((i : ℕ) → i < k → m ≤ countBelow n (p i))
     → ((i u : ℕ) → i < k → u < n → T (p i u) → (x u ≤ a + i) × (a + i < x u + l u))
-    → m * k ≤ sumN n l
+    → m * k ≤ sumBelow n l
 area n m a k p x l h w =
     omega (
       arith,
       swap n k p m h,
-      sum-le n (λ u. sumN k (λ i. wt (p i u) 1)) l (λ u g. omega (arith, window k a (x u) (l u) (λ i. p i u) (λ i j. w i u j g))),
+      sum-le n (λ u. sumBelow k (λ i. valueIf (p i u) 1)) l (λ u g. omega (arith, window k a (x u) (l u) (λ i. p i u) (λ i j. w i u j g))),
     )

@@ -21,8 +21,9 @@ use Rattle.record.specs.declared.Block.{Block}
 use Rattle.record.proofs.AcceptedRanges.{Ranges}
 use Rattle.model.specs.Nodes.{EX, nodes, node, stage, instruction, isEX, entry}
 use Rattle.model.specs.Cycles.{notStarted, start, started, finish, runs, units, free, turns}
-use Rattle.schedules.proofs.Counting.{count}
-use Rattle.schedules.proofs.Net.{Net, busy, Busy, busy→, →busy}
+use Rattle.schedules.specs.inside.Counts.{countBelow}
+use Rattle.schedules.specs.inside.Nets.{Net, busy, Busy}
+use Rattle.schedules.proofs.NetLaws.{busy→, →busy}
 use Rattle.schedules.proofs.ScheduleStep.{May, Next}
 use Rattle.schedules.proofs.BlockNet.{T-true, true-T, net, count-EX}
 use Rattle.schedules.proofs.CycleTurns.{started-yes, started-not, unstarted, unstarted-start, seen, Known, begun, turns-length, turns-later, turns-below, Begins, begins-means, means-begins}
@@ -54,18 +55,18 @@ module _ (b : Block) (A : Ranges b) (lo : ℕ → ℕ) (pos : (v : ℕ) → v < 
   Left u = (start s u ≡ notStarted) × (begun b lat H s u ≡ false) × (start after u ≡ notStarted)
 
   cases : (u : ℕ) → u < nodes b → Old u ⊎ (New u ⊎ Left u)
-  cases u l = go (begun b lat H s u) refl (known u l)
+  cases u l = by-turn (begun b lat H s u) refl (known u l)
     where
       is : start after u ≡ pick (begun b lat H s u) H (start s u)
       is = turns-below b lat H s (nodes b) u l long
 
-      go : (t : Bool) → begun b lat H s u ≡ t → Known H (start s u) → Old u ⊎ (New u ⊎ Left u)
-      go true e k =
+      by-turn : (t : Bool) → begun b lat H s u ≡ t → Known H (start s u) → Old u ⊎ (New u ⊎ Left u)
+      by-turn true e k =
           let w = unstarted-start (now u) u (now-long u u l) (begins-means b lat H (now u) u e .waiting) in
           let q : start s u ≡ notStarted = omega (arith, turns-later b lat H s u u (omega arith)) in
           inr (inl (q, e, rw e at is))
-      go false e (inl k) = inl (k, rw e at is)
-      go false e (inr k) = inr (inr (k, e, (rw e at is) ∙ k))
+      by-turn false e (inl k) = inl (k, rw e at is)
+      by-turn false e (inr k) = inr (inr (k, e, (rw e at is) ∙ k))
 
   -- the starts as they are seen after this cycle
   abbrev next : ℕ → ℕ
@@ -78,28 +79,28 @@ module _ (b : Block) (A : Ranges b) (lo : ℕ → ℕ) (pos : (v : ℕ) → v < 
 
     -- what has started at v's turn keeps its start, which lies before this cycle if v comes first
     now-after : (w : ℕ) → w < nodes b → start (now v) w ≤ H → (start after w ≡ start (now v) w) × (v ≤ w → start after w < H)
-    now-after w lw h = go (decLe v w)
+    now-after w lw h = by-place (decLe v w)
       where
         old : start (now v) w ≡ start s w → Old w ⊎ (New w ⊎ Left w) → (start after w ≡ start (now v) w) × (v ≤ w → start after w < H)
         old e (inl o) = (o .1 ∙ sym e, λ x. omega (arith, o .0, o .1))
         old e (inr (inl o)) = absurd (omega (arith, o .0))
         old e (inr (inr o)) = absurd (omega (arith, o .0))
 
-        go : Dec (v ≤ w) → (start after w ≡ start (now v) w) × (v ≤ w → start after w < H)
-        go (yes k) = old (turns-later b lat H s v w k) (cases w lw)
-        go (no k) = (sym (now-before w (omega arith)), λ x. absurd (omega arith))
+        by-place : Dec (v ≤ w) → (start after w ≡ start (now v) w) × (v ≤ w → start after w < H)
+        by-place (yes k) = old (turns-later b lat H s v w k) (cases w lw)
+        by-place (no k) = (sym (now-before w (omega arith)), λ x. absurd (omega arith))
 
     after-now : (w : ℕ) → w < nodes b → (v ≤ w → start after w < H) → start (now v) w ≡ start after w
-    after-now w lw h = go (decLe v w)
+    after-now w lw h = by-place (decLe v w)
       where
         old : v ≤ w → Old w ⊎ (New w ⊎ Left w) → start s w ≡ start after w
         old k (inl o) = sym (o .1)
         old k (inr (inl o)) = absurd (omega (arith, h k, o .2))
         old k (inr (inr o)) = absurd (omega (arith, h k, o .2))
 
-        go : Dec (v ≤ w) → start (now v) w ≡ start after w
-        go (yes k) = turns-later b lat H s v w k ∙ old k (cases w lw)
-        go (no k) = now-before w (omega arith)
+        by-place : Dec (v ≤ w) → start (now v) w ≡ start after w
+        by-place (yes k) = turns-later b lat H s v w k ∙ old k (cases w lw)
+        by-place (no k) = now-before w (omega arith)
 
     -- the EX of v's kind that run at v's turn are those that are busy in the schedule
     abbrev kindOf : ℕ → ℕ
@@ -148,7 +149,7 @@ module _ (b : Block) (A : Ranges b) (lo : ℕ → ℕ) (pos : (v : ℕ) → v < 
     unfolding busy
     busy-off u e = rw e refl
 
-    same-count : count (nodes b) (busy G lat next v H) ≡ length (numbersWhere 0 (b .n) working)
+    same-count : countBelow (nodes b) (busy G lat next v H) ≡ length (numbersWhere 0 (b .n) working)
     same-count =
         count-EX (busy G lat next v H) busy-off (b .n)
         ∙ ap length (numbersWhere-ext (λ j. busy G lat next v H (node EX j)) working 0 (b .n) (λ j a h. same-test _ _ (busy-working j h) (working-busy j h)))
@@ -163,16 +164,17 @@ module _ (b : Block) (A : Ranges b) (lo : ℕ → ℕ) (pos : (v : ℕ) → v < 
             fin = λ u i. let o = G .fin-lt u v i in omega (arith, now-before u o, k .finished u i .0);
             ord = λ u i. let o = G .ord-lt u v i in omega (arith, at-most u (omega arith) (started-not (now v) u (k .ordered u i)) (now-before u o));
           };
-          unit = λ x. omega (arith, same-count, ltb-true (length (numbersWhere 0 (b .n) working)) (units b (kindOf (instruction v))) (k .unit (T-true (isEX v) x)));
+          unit = λ x.
+              omega (arith, same-count, ltb-true (length (numbersWhere 0 (b .n) working)) (units b (kindOf (instruction v))) (k .unit (T-true (isEX v) x)));
         }
       where
         at-most : (u : ℕ) → u < nodes b → (start (now v) u ≡ notStarted → ⊥) → start (now v) u ≡ start after u → start after u ≤ H
-        at-most u lu n e = go (cases u lu)
+        at-most u lu n e = by-case (cases u lu)
           where
-            go : Old u ⊎ (New u ⊎ Left u) → start after u ≤ H
-            go (inl o) = omega (arith, o .0, o .1)
-            go (inr (inl o)) = omega (arith, o .2)
-            go (inr (inr o)) = absurd (n (omega (arith, o .2)))
+            by-case : Old u ⊎ (New u ⊎ Left u) → start after u ≤ H
+            by-case (inl o) = omega (arith, o .0, o .1)
+            by-case (inr (inl o)) = omega (arith, o .2)
+            by-case (inr (inr o)) = absurd (n (omega (arith, o .2)))
 
     may-begins : start s v ≡ notStarted → May G lat H next v → begun b lat H s v ≡ true
     unfolding free
@@ -196,16 +198,17 @@ module _ (b : Block) (A : Ranges b) (lo : ℕ → ℕ) (pos : (v : ℕ) → v < 
       keep v (inr (inl o)) h = absurd (omega (arith, o .0))
       keep v (inr (inr o)) h = absurd (omega (arith, o .0))
 
-      fresh : (v : ℕ) → v < nodes b → Old v ⊎ (New v ⊎ Left v) → H ≤ seen H s v → ((next v ≡ H) × May G lat H next v) ⊎ ((next v ≡ suc H) × (May G lat H next v → ⊥))
+      fresh : (v : ℕ) → v < nodes b → Old v ⊎ (New v ⊎ Left v) → H ≤ seen H s v
+          → ((next v ≡ H) × May G lat H next v) ⊎ ((next v ≡ suc H) × (May G lat H next v → ⊥))
       fresh v l (inl o) h = absurd (omega (arith, o .0))
       fresh v l (inr (inl o)) h = inl (omega (arith, o .2), begins-may v l (o .1))
       fresh v l (inr (inr o)) h = inr (omega (arith, o .2), λ m. false≢true (sym (o .1) ∙ may-begins v l (o .0) m))
 
   -- and leaves starts of this cycle or before it
   pub turns-known : (v : ℕ) → v < nodes b → Known (suc H) (start (turns b lat H s (nodes b)) v)
-  turns-known v l = go (cases v l)
+  turns-known v l = known-after (cases v l)
     where
-      go : Old v ⊎ (New v ⊎ Left v) → Known (suc H) (start after v)
-      go (inl o) = inl (omega (arith, o .0, o .1))
-      go (inr (inl o)) = inl (omega (arith, o .2))
-      go (inr (inr o)) = inr (o .2)
+      known-after : Old v ⊎ (New v ⊎ Left v) → Known (suc H) (start after v)
+      known-after (inl o) = inl (omega (arith, o .0, o .1))
+      known-after (inr (inl o)) = inl (omega (arith, o .2))
+      known-after (inr (inr o)) = inr (o .2)

@@ -1,5 +1,5 @@
 pub mod Counting
-pub mod Net
+pub mod NetLaws
 pub mod ScheduleStep
 pub mod RoundsBound
 pub mod BlockNet

@@ -14,9 +14,11 @@ use Rattle.record.proofs.AcceptedRanges.{Ranges, ranges}
 use Rattle.model.specs.Nodes.{nodes, instruction, isEX, entry, highest}
 use Rattle.model.specs.Cycles.{State, start, finish, firstState, playOn, play}
 use Rattle.model.proofs.Limits.{readyLimit, finishLimit, limits-grow, late, room, end-limit, highest-most, most-255}
-use Rattle.schedules.proofs.Counting.{wt, max-least}
-use Rattle.schedules.proofs.Net.{Net, Fits, Sched}
-use Rattle.schedules.proofs.RoundsBound.{earlier, base, early-last, Round, bounded}
+use Rattle.schedules.specs.inside.Counts.{valueIf}
+use Rattle.schedules.specs.inside.Nets.{Net, Fits, Sched}
+use Rattle.schedules.specs.inside.RoundInequalities.{earlier, base, early-last, Round}
+use Rattle.schedules.proofs.Counting.{max-least}
+use Rattle.schedules.proofs.RoundsBound.{bounded}
 use Rattle.schedules.proofs.BlockNet.{T-true, net}
 use Rattle.schedules.proofs.CycleTurns.{seen}
 use Rattle.schedules.proofs.PlaySchedule.{sched-ended, Played, Stopped, first-played, playOn-played}
@@ -40,16 +42,16 @@ module _ (b : Block) (A : Ranges b) (cap : (i : ℕ) → entry b i .hi ≤ 255) 
   wait : (v : ℕ) → base (limitNet b A) delays (λ u. readyLimit u) v ≤ readyLimit v + 254
   unfolding base
   wait v =
-      omega (arith, max-least (nodes b) (λ u. wt true (highest b u)) 255 (λ u l. omega (arith, highest-most b A cap u, most-255 b A cap (isEX u))))
+      omega (arith, max-least (nodes b) (λ u. valueIf true (highest b u)) 255 (λ u l. omega (arith, highest-most b A cap u, most-255 b A cap (isEX u))))
 
   -- and the earlier ones have finished by then
   last : (v : ℕ) → early-last (limitNet b A) delays (λ u. finishLimit u) v ≤ readyLimit v
   unfolding early-last
-  last v = max-least (nodes b) (λ u. wt (earlier delays v u) (finishLimit u)) (readyLimit v) (λ u l. go u (ltb u v) refl)
+  last v = max-least (nodes b) (λ u. valueIf (earlier delays v u) (finishLimit u)) (readyLimit v) (λ u l. finished-by-ready u (ltb u v) refl)
     where
-      go : (u : ℕ) (t : Bool) → ltb u v ≡ t → wt t (finishLimit u) ≤ readyLimit v
-      go u true e = limits-grow u v (ltb→lt u v (rw e tt))
-      go u false e = omega arith
+      finished-by-ready : (u : ℕ) (t : Bool) → ltb u v ≡ t → valueIf t (finishLimit u) ≤ readyLimit v
+      finished-by-ready u true e = limits-grow u v (ltb→lt u v (rw e tt))
+      finished-by-ready u false e = omega arith
 
   pub limit-round : Round (limitNet b A) (λ v. 0) (λ u v. ⊥) delays delays (λ v. readyLimit v) startLimit (λ v. finishLimit v)
   limit-round =
@@ -90,11 +92,11 @@ module _ (b : Block) (z : blockVerdict b ≡ (0, 0)) (cap : (i : ℕ) → entry 
 
   -- ALL HAVE STARTED IN IT
   pub all-started : (v : ℕ) → v < nodes b → start (last-state .starts) v < last-state .t
-  all-started v l = go (stops .1 .at)
+  all-started v l = by-stop (stops .1 .at)
     where
-      go : (last-state .t ≡ 30780) ⊎ ((u : ℕ) → u < nodes b → start (last-state .starts) u < last-state .t) → start (last-state .starts) v < last-state .t
-      go (inl e) = omega (arith, played-limit last-state (stops .0) v l, end-limit v, least v l, A .n .1)
-      go (inr h) = h v l
+      by-stop : (last-state .t ≡ 30780) ⊎ ((u : ℕ) → u < nodes b → start (last-state .starts) u < last-state .t) → start (last-state .starts) v < last-state .t
+      by-stop (inl e) = omega (arith, played-limit last-state (stops .0) v l, end-limit v, least v l, A .n .1)
+      by-stop (inr h) = h v l
 
   -- EVERY PLAY ENDS: NO NODE OF INSTRUCTION i FINISHES AFTER 513 (i + 1) CYCLES
   pub play-limit : (v : ℕ) → v < nodes b → finish lat (play b lat) v ≤ 513 * (instruction v + 1)

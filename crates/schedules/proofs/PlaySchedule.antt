@@ -19,8 +19,10 @@ use Rattle.record.specs.declared.Block.{Block}
 use Rattle.record.proofs.AcceptedRanges.{Ranges}
 use Rattle.model.specs.Nodes.{nodes}
 use Rattle.model.specs.Cycles.{State, notStarted, start, started, turns, cycle, firstState, allStarted, playOn}
-use Rattle.schedules.proofs.Counting.{count, count-mono}
-use Rattle.schedules.proofs.Net.{Net, Fits, Done, busy, busy→, →busy, Sched}
+use Rattle.schedules.specs.inside.Counts.{countBelow}
+use Rattle.schedules.specs.inside.Nets.{Net, Fits, Done, busy, Sched}
+use Rattle.schedules.proofs.Counting.{count-mono}
+use Rattle.schedules.proofs.NetLaws.{busy→, →busy}
 use Rattle.schedules.proofs.ScheduleStep.{empty-sched, next-sched}
 use Rattle.schedules.proofs.BlockNet.{net}
 use Rattle.schedules.proofs.CycleTurns.{seen, Known, started-not, turns-length}
@@ -39,7 +41,7 @@ module _ (G : Net) (lat : ℕ → ℕ) where
         ord = λ u i. let o = G .ord-lt u v i in omega (arith, d .ord u i, e u (omega arith));
       }
 
-  busy-same : (s r : ℕ → ℕ) → Same s r → (v t : ℕ) → count (G .N) (busy G lat s v t) ≤ count (G .N) (busy G lat r v t)
+  busy-same : (s r : ℕ → ℕ) → Same s r → (v t : ℕ) → countBelow (G .N) (busy G lat s v t) ≤ countBelow (G .N) (busy G lat r v t)
   busy-same s r e v t =
       count-mono (G .N) (busy G lat s v t) (busy G lat r v t)
       (λ u l h.
@@ -129,11 +131,11 @@ module _ (b : Block) (A : Ranges b) (lo : ℕ → ℕ) (pos : (v : ℕ) → v < 
       })
 
   allStarted-below : (p : State) → Played b G lat p → allStarted b p ≡ true → (v : ℕ) → v < nodes b → start (p .starts) v < p .t
-  allStarted-below p P e v l = go (P .known v l)
+  allStarted-below p P e v l = start-below (P .known v l)
     where
-      go : Known (p .t) (start (p .starts) v) → start (p .starts) v < p .t
-      go (inl k) = k
-      go (inr k) = absurd (started-not (p .starts) v (allStarted-each b p e v l) k)
+      start-below : Known (p .t) (start (p .starts) v) → start (p .starts) v < p .t
+      start-below (inl k) = k
+      start-below (inr k) = absurd (started-not (p .starts) v (allStarted-each b p e v l) k)
 
   -- EVERY PLAY IS A SCHEDULE
   pub playOn-played : (k : ℕ) (p : State) → p .t + k ≤ notStarted → Played b G lat p
@@ -143,11 +145,11 @@ module _ (b : Block) (A : Ranges b) (lo : ℕ → ℕ) (pos : (v : ℕ) → v < 
   playOn-played (suc k) p h P =
       by-test (allStarted b p)
       (λ e. rw e (P, record { at = inr (allStarted-below p P e) }))
-      (λ e. rw e (go (playOn-played k (cycle b lat p) (omega (arith, later)) (cycle-played p (omega arith) P))))
+      (λ e. rw e (one-cycle-more (playOn-played k (cycle b lat p) (omega (arith, later)) (cycle-played p (omega arith) P))))
     where
       later : cycle b lat p .t ≡ p .t + 1
       later = unfold cycle in refl
 
-      go : Played b G lat (playOn k b lat (cycle b lat p)) × Stopped b (cycle b lat p .t + k) (playOn k b lat (cycle b lat p))
+      one-cycle-more : Played b G lat (playOn k b lat (cycle b lat p)) × Stopped b (cycle b lat p .t + k) (playOn k b lat (cycle b lat p))
           → Played b G lat (playOn k b lat (cycle b lat p)) × Stopped b (p .t + suc k) (playOn k b lat (cycle b lat p))
-      go r = let q : cycle b lat p .t + k ≡ p .t + suc k = omega (arith, later) in (r .0, rw q at r .1)
+      one-cycle-more r = let q : cycle b lat p .t + k ≡ p .t + suc k = omega (arith, later) in (r .0, rw q at r .1)

@@ -1,18 +1,17 @@
 -- A round's latest times bound every schedule, and earliest times bound it from below. Assumes nothing.
-use Prim.Native.Nat.{ℕ, zero, suc, _+_, _*_, _-_, _/_, _≤_, _<_, min, max}
+use Prim.Native.Nat.{ℕ, zero, suc, _+_, _*_, _-_, _/_, _≤_, _<_, max}
 use mathlib.Core.Path.{_≡_, refl, sym, ap, _∙_}
-use mathlib.Core.Bool.{Bool, true, false, _&&_}
-use mathlib.Core.Logic.{_⊎_, inl, inr}
+use mathlib.Core.Bool.{Bool, true, false}
+use mathlib.Core.Logic.{_⊎_, inl, inr, ⊎-elim}
 use native.Mathlib.Omega.{arith}
 use native.Mathlib.Decide.{decLe}
 use native.Mathlib.Nat.{le-div-iff-mul-le}
-use lib.Dec.{T, ltb, ltb→lt, lt→ltb}
-use Rattle.schedules.proofs.Counting.{wt, wt-on, wt-mono, sumN, maxN, count, sum-le, count-mono, count-find, max-ge, area}
-use Rattle.schedules.proofs.Net.{Net, Fits, Way, by-fin, by-ord, then-fin, then-ord, Done, done-mono, busy, Busy, busy→, →busy, Sched, and-right, and-both}
-
--- earliest ready times: the least that the edges allow
-pub record Early (G : Net) (ER : ℕ → ℕ) : Type 0 where
-  pub least : (v x : ℕ) → v < G .N → ((u : ℕ) → G .Fin u v → ER u + G .lo u ≤ x) → ((u : ℕ) → G .Ord u v → ER u ≤ x) → ER v ≤ x
+use lib.Dec.{T, ltb, eqb, not-T, ltb→lt, lt→ltb, eqb→eq}
+use Rattle.schedules.specs.inside.Counts.{valueIf, sumBelow, countBelow}
+use Rattle.schedules.specs.inside.Nets.{Net, Fits, Way, by-fin, by-ord, then-fin, then-ord, Done, busy, Busy, Sched}
+use Rattle.schedules.specs.inside.RoundInequalities.{Early, Separates, earlier, base, early-sum, early-last, other, Round, Bounded}
+use Rattle.schedules.proofs.Counting.{valueIf-on, valueIf-mono, sum-le, count-mono, count-find, max-ge, area}
+use Rattle.schedules.proofs.NetLaws.{done-mono, busy→, →busy, and-right, and-both}
 
 -- ---- a schedule of H cycles
 module _ (G : Net) (lat : ℕ → ℕ) (F : Fits G lat) (H : ℕ) (s : ℕ → ℕ) (P : Sched G lat H s) where
@@ -56,48 +55,12 @@ module _ (G : Net) (lat : ℕ → ℕ) (F : Fits G lat) (H : ℕ) (s : ℕ → �
     pub early-start : (v : ℕ) → v < G .N → s v < H → ER v ≤ s v
     early-start v l h = early-ready v (s v) l h (P .ready v l h)
 
--- ---- what a round's latest times R (ready), LS (start), LF (finish) have to meet. con v u: u may delay v. late v u: u is
--- a later one that counts for v
-
--- u may delay v and stands before it
-abbrev pub earlier : (ℕ → ℕ → Bool) → ℕ → ℕ → Bool
-earlier con v u = con v u && ltb u v
-
--- latest ready, and what the later ones may add
-unfoldable pub base : Net → (ℕ → ℕ → Bool) → (ℕ → ℕ) → ℕ → ℕ
-base G late R v = R v + (maxN (G .N) (λ u. wt (late v u) (G .hi u)) - 1)
-
--- what the earlier ones may run in all
-unfoldable pub early-sum : Net → (ℕ → ℕ → Bool) → ℕ → ℕ
-early-sum G con v = sumN (G .N) (λ u. wt (earlier con v u) (G .hi u))
-
--- when the last of the earlier ones finishes at the latest
-unfoldable pub early-last : Net → (ℕ → ℕ → Bool) → (ℕ → ℕ) → ℕ → ℕ
-early-last G con LF v = maxN (G .N) (λ u. wt (earlier con v u) (LF u))
-
-pub record Round (G : Net) (ER : ℕ → ℕ) (Apart : ℕ → ℕ → Type 0) (con late : ℕ → ℕ → Bool) (R LS LF : ℕ → ℕ) : Type 0 where
-  pub cover : (v u : ℕ) → v < G .N → u < G .N → T (G .ex v) → T (G .ex u) → G .kind u ≡ G .kind v → (u ≡ v → ⊥) → T (con v u) ⊎ (Way G u v ⊎ (Way G v u ⊎ Apart u v))
-  pub later : (v u : ℕ) → v < G .N → u < G .N → T (con v u) → v < u → ER u < R v → T (late v u)
-  pub r-fin : (u v : ℕ) → v < G .N → G .Fin u v → LF u ≤ R v
-  pub r-ord : (u v : ℕ) → v < G .N → G .Ord u v → LS u ≤ R v
-  pub ls-base : (v : ℕ) → v < G .N → R v ≤ LS v
-  pub ls-ex : (v : ℕ) → v < G .N → T (G .ex v) → G .units (G .kind v) ≤ count (G .N) (con v)
-      → min (base G late R v + early-sum G con v / G .units (G .kind v)) (max (base G late R v) (early-last G con LF v)) ≤ LS v
-  pub lf : (v : ℕ) → v < G .N → LS v + G .hi v ≤ LF v
-
--- ready, start and finish of v in a schedule are at most these
-pub record Bounded (G : Net) (lat s R LS LF : ℕ → ℕ) (v : ℕ) : Type 0 where
-  pub ready : Done G lat s v (R v)
-  pub start : s v ≤ LS v
-  pub finish : s v + lat v ≤ LF v
-
 module _ (G : Net) (lat : ℕ → ℕ) (F : Fits G lat) (H : ℕ) (s : ℕ → ℕ) (P : Sched G lat H s)
-    (ER : ℕ → ℕ) (A : Early G ER) (Apart : ℕ → ℕ → Type 0)
-    (sep : (u v : ℕ) → u < G .N → v < G .N → Apart u v → (s u + lat u ≤ ER v) ⊎ (s v + lat v ≤ ER u)) where
+    (ER : ℕ → ℕ) (A : Early G ER) (Apart : ℕ → ℕ → Type 0) (sep : Separates G lat s ER Apart) where
   module _ (con late : ℕ → ℕ → Bool) (R LS LF : ℕ → ℕ) (Q : Round G ER Apart con late R LS LF) (v : ℕ) (l : v < G .N) (e : T (G .ex v)) where
     -- what runs while v waits may delay it
     busy-con : (t u : ℕ) → u < G .N → Done G lat s v t → t < s v → T (busy G lat s v t u) → T (con v u)
-    busy-con t u lu d w h = go (Q .cover v u l lu e (b .ex) (b .same) self)
+    busy-con t u lu d w h = by-cover (Q .cover v u l lu e (b .ex) (b .same) two)
       where
         b : Busy G lat s v t u
         b = busy→ G lat s v t u h
@@ -105,21 +68,21 @@ module _ (G : Net) (lat : ℕ → ℕ) (F : Fits G lat) (H : ℕ) (s : ℕ → �
         th : t < H
         th = omega (arith, P .top v l)
 
-        self : u ≡ v → ⊥
-        self q = let z : s u ≡ s v = ap s q in omega (arith, b .begun)
+        two : T (other u v)
+        two = not-T (eqb u v) (λ q. omega (arith, ap s (eqb→eq u v q), b .begun))
 
         du : Done G lat s u (s u)
         du = P .ready u lu (omega (arith, b .begun, th))
 
-        go : T (con v u) ⊎ (Way G u v ⊎ (Way G v u ⊎ Apart u v)) → T (con v u)
-        go (inl c) = c
-        go (inr (inl p)) = absurd (omega (arith, done-of-way G lat F H s P u v t l (b .ex) p d th, b .runs))
-        go (inr (inr (inl p))) = absurd (omega (arith, done-of-way G lat F H s P v u (s u) lu e p du (omega (arith, b .begun, th)), b .begun))
-        go (inr (inr (inr a))) = far (sep u v lu l a)
-          where
-            far : (s u + lat u ≤ ER v) ⊎ (s v + lat v ≤ ER u) → T (con v u)
-            far (inl q) = absurd (omega (arith, early-ready G lat F H s P ER A v t l th d, b .runs))
-            far (inr q) = absurd (omega (arith, early-start G lat F H s P ER A u lu (omega (arith, b .begun, th)), b .begun))
+        by-cover : T (con v u) ⊎ (Way G u v ⊎ (Way G v u ⊎ Apart u v)) → T (con v u)
+        by-cover (inl c) = c
+        by-cover (inr (inl p)) = absurd (omega (arith, done-of-way G lat F H s P u v t l (b .ex) p d th, b .runs))
+        by-cover (inr (inr (inl p))) = absurd (omega (arith, done-of-way G lat F H s P v u (s u) lu e p du (omega (arith, b .begun, th)), b .begun))
+        by-cover (inr (inr (inr a))) =
+            ⊎-elim
+            (λ q. absurd (omega (arith, early-ready G lat F H s P ER A v t l th d, b .runs)))
+            (λ q. absurd (omega (arith, early-start G lat F H s P ER A u lu (omega (arith, b .begun, th)), b .begun)))
+            (sep u v lu l a)
 
     -- a later one that runs while v waits started before v was ready
     late-start : (t u : ℕ) → u < G .N → v ≤ u → t < s v → T (busy G lat s v t u) → Done G lat s v (s u) → ⊥
@@ -131,7 +94,7 @@ module _ (G : Net) (lat : ℕ → ℕ) (F : Fits G lat) (H : ℕ) (s : ℕ → �
         su : s u < H
         su = omega (arith, P .top v l, b .begun)
 
-        sub : count (G .N) (busy G lat s v (s u)) ≤ count (G .N) (busy G lat s u (s u))
+        sub : countBelow (G .N) (busy G lat s v (s u)) ≤ countBelow (G .N) (busy G lat s u (s u))
         sub =
             count-mono (G .N) (busy G lat s v (s u)) (busy G lat s u (s u))
             (λ x lx k.
@@ -142,7 +105,7 @@ module _ (G : Net) (lat : ℕ → ℕ) (F : Fits G lat) (H : ℕ) (s : ℕ → �
       -- from `base` on only earlier ones run
       busy-early : (t u : ℕ) → u < G .N → base G late R v ≤ t → t < s v → T (busy G lat s v t u) → T (earlier con v u)
       unfolding base
-      busy-early t u lu g w h = and-both (con v u) _ c (lt→ltb u v (go (decLe v u)))
+      busy-early t u lu g w h = and-both (con v u) _ c (lt→ltb u v (stands-before (decLe v u)))
         where
           b : Busy G lat s v t u
           b = busy→ G lat s v t u h
@@ -150,29 +113,29 @@ module _ (G : Net) (lat : ℕ → ℕ) (F : Fits G lat) (H : ℕ) (s : ℕ → �
           c : T (con v u)
           c = busy-con t u lu (done-mono G lat s v (R v) t (omega arith) dR) w h
 
-          go : Dec (v ≤ u) → u < v
-          go (no k) = omega arith
-          go (yes k) = absurd (sooner (decLe (R v) (s u)))
+          stands-before : Dec (v ≤ u) → u < v
+          stands-before (no k) = omega arith
+          stands-before (yes k) = absurd (sooner (decLe (R v) (s u)))
             where
               sooner : Dec (R v ≤ s u) → ⊥
               sooner (yes x) = late-start t u lu k w h (done-mono G lat s v (R v) (s u) x dR)
               sooner (no x) =
                   let su : s u < H = omega (arith, P .top v l, b .begun) in
                   let er : ER u < R v = omega (arith, early-start G lat F H s P ER A u lu su) in
-                  let ne : v < u = go′ (decLe u v) in
+                  let ne : v < u = stands-after (decLe u v) in
                   let lt = Q .later v u l lu c ne er in
-                  omega (arith, b .runs, F .high u lu, max-ge (G .N) (λ i. wt (late v i) (G .hi i)) u lu, wt-on (late v u) (G .hi u) lt)
+                  omega (arith, b .runs, F .high u lu, max-ge (G .N) (λ i. valueIf (late v i) (G .hi i)) u lu, valueIf-on (late v u) (G .hi u) lt)
                 where
-                  go′ : Dec (u ≤ v) → v < u
-                  go′ (no z) = omega arith
-                  go′ (yes z) = let q : u ≡ v = omega arith in absurd (omega (arith, ap s q, b .begun))
+                  stands-after : Dec (u ≤ v) → v < u
+                  stands-after (no z) = omega arith
+                  stands-after (yes z) = let q : u ≡ v = omega arith in absurd (omega (arith, ap s q, b .begun))
 
       r-le-base : R v ≤ base G late R v
       unfolding base
       r-le-base = omega arith
 
       -- from `base` on all units are taken, at each time
-      taken : (t : ℕ) → R v ≤ t → t < s v → G .units (G .kind v) ≤ count (G .N) (busy G lat s v t)
+      taken : (t : ℕ) → R v ≤ t → t < s v → G .units (G .kind v) ≤ countBelow (G .N) (busy G lat s v t)
       taken t g h = P .waits v t l e h (done-mono G lat s v (R v) t g dR)
 
       -- the wait is paid for by the earlier ones' latencies
@@ -182,38 +145,38 @@ module _ (G : Net) (lat : ℕ → ℕ) (F : Fits G lat) (H : ℕ) (s : ℕ → �
           let k : ℕ = s v - base G late R v in
           let m : ℕ = G .units (G .kind v) in
           let b : ℕ = base G late R v in
-          let paid : m * k ≤ sumN (G .N) (λ u. wt (earlier con v u) (lat u)) =
-          area (G .N) m b k (λ i u. busy G lat s v (b + i) u) s (λ u. wt (earlier con v u) (lat u))
+          let paid : m * k ≤ sumBelow (G .N) (λ u. valueIf (earlier con v u) (lat u)) =
+          area (G .N) m b k (λ i u. busy G lat s v (b + i) u) s (λ u. valueIf (earlier con v u) (lat u))
           (λ i h. taken (b + i) (omega (arith, r-le-base)) (omega arith))
           (λ i u h lu t.
           let x = busy→ G lat s v (b + i) u t in
           let y = busy-early (b + i) u lu (omega arith) (omega arith) t in
-          (x .begun, rw (wt-on (earlier con v u) (lat u) y) (x .runs)))
+          (x .begun, rw (valueIf-on (earlier con v u) (lat u) y) (x .runs)))
           in
-          let most : sumN (G .N) (λ u. wt (earlier con v u) (lat u)) ≤ early-sum G con v =
-          sum-le (G .N) (λ u. wt (earlier con v u) (lat u)) (λ u. wt (earlier con v u) (G .hi u))
-          (λ u lu. wt-mono (earlier con v u) (earlier con v u) (lat u) (G .hi u) (λ t. t) (F .high u lu))
+          let most : sumBelow (G .N) (λ u. valueIf (earlier con v u) (lat u)) ≤ early-sum G con v =
+          sum-le (G .N) (λ u. valueIf (earlier con v u) (lat u)) _
+          (λ u lu. valueIf-mono (earlier con v u) (earlier con v u) (lat u) _ (λ t. t) (omega (arith, F .high u lu)))
           in
           let q : k ≤ early-sum G con v / m = le-div-iff-mul-le {k = m} {x = k} {y = early-sum G con v} (G .units-pos (G .kind v)) .1 (omega arith) in
           omega arith
 
       wait-last : ((u : ℕ) → u < v → s u + lat u ≤ LF u) → s v ≤ max (base G late R v) (early-last G con LF v)
       unfolding early-last
-      wait-last ih = go (decLe (s v) (base G late R v))
+      wait-last ih = by-wait (decLe (s v) (base G late R v))
         where
-          go : Dec (s v ≤ base G late R v) → s v ≤ max (base G late R v) (early-last G con LF v)
-          go (yes h) = omega arith
-          go (no h) =
+          by-wait : Dec (s v ≤ base G late R v) → s v ≤ max (base G late R v) (early-last G con LF v)
+          by-wait (yes h) = omega arith
+          by-wait (no h) =
               let t : ℕ = s v - 1 in
               let f = count-find (G .N) (busy G lat s v t) (omega (arith, taken t (omega (arith, r-le-base)) (omega arith), G .units-pos (G .kind v))) in
               let u : ℕ = f .0 in
               let b : Busy G lat s v t u = busy→ G lat s v t u (f .2) in
               let y : T (earlier con v u) = busy-early t u (f .1) (omega arith) (omega arith) (f .2) in
               let o : u < v = ltb→lt u v (and-right (con v u) (ltb u v) y) in
-              omega (arith, ih u o, b .runs, max-ge (G .N) (λ i. wt (earlier con v i) (LF i)) u (f .1), wt-on (earlier con v u) (LF u) y)
+              omega (arith, ih u o, b .runs, max-ge (G .N) (λ i. valueIf (earlier con v i) (LF i)) u (f .1), valueIf-on (earlier con v u) (LF u) y)
 
       -- at the time R v all units are taken by what may delay v
-      wait-con : R v < s v → G .units (G .kind v) ≤ count (G .N) (con v)
+      wait-con : R v < s v → G .units (G .kind v) ≤ countBelow (G .N) (con v)
       wait-con h =
           omega (
             arith,
@@ -222,11 +185,11 @@ module _ (G : Net) (lat : ℕ → ℕ) (F : Fits G lat) (H : ℕ) (s : ℕ → �
           )
 
       ex-bound : ((u : ℕ) → u < v → s u + lat u ≤ LF u) → s v ≤ LS v
-      ex-bound ih = go (decLe (s v) (R v))
+      ex-bound ih = by-wait (decLe (s v) (R v))
         where
-          go : Dec (s v ≤ R v) → s v ≤ LS v
-          go (yes h) = omega (arith, Q .ls-base v l)
-          go (no h) = omega (arith, Q .ls-ex v l e (wait-con (omega arith)), wait-sum, wait-last ih)
+          by-wait : Dec (s v ≤ R v) → s v ≤ LS v
+          by-wait (yes h) = omega (arith, Q .ls-base v l)
+          by-wait (no h) = omega (arith, Q .ls-ex v l e (wait-con (omega arith)), wait-sum, wait-last ih)
 
   -- A ROUND BOUNDS EVERY SCHEDULE. In node order: the nodes before v keep their latest times, so v is ready by R. Off EX it
   -- then starts. An EX that is ready at r and starts at s finds all units of its kind held at each cycle from r on and before
@@ -246,23 +209,23 @@ module _ (G : Net) (lat : ℕ → ℕ) (F : Fits G lat) (H : ℕ) (s : ℕ → �
           ord = λ u f. let o = G .ord-lt u v f in omega (arith, ih u o, Q .r-ord u v l f);
         }
 
-    one : (v : ℕ) → v < G .N → ((u : ℕ) → u < v → s u ≤ LS u) → s v ≤ LS v
-    one v l ih = go (G .ex v) refl
+    starts-if-earlier-do : (v : ℕ) → v < G .N → ((u : ℕ) → u < v → s u ≤ LS u) → s v ≤ LS v
+    starts-if-earlier-do v l ih = by-stage (G .ex v) refl
       where
-        go : (b : Bool) → G .ex v ≡ b → s v ≤ LS v
-        go true x = ex-bound con late R LS LF Q v l (rw x tt) (ready-by v l ih) (λ u o. ends-by u (omega arith) (ih u o))
-        go false x = off (decLe (s v) (LS v))
+        by-stage : (b : Bool) → G .ex v ≡ b → s v ≤ LS v
+        by-stage true x = ex-bound con late R LS LF Q v l (rw x tt) (ready-by v l ih) (λ u o. ends-by u (omega arith) (ih u o))
+        by-stage false x = off-EX (decLe (s v) (LS v))
           where
-            off : Dec (s v ≤ LS v) → s v ≤ LS v
-            off (yes h) = h
-            off (no h) = absurd (P .prompt v (R v) l (rw x tt) (omega (arith, Q .ls-base v l)) (ready-by v l ih))
+            off-EX : Dec (s v ≤ LS v) → s v ≤ LS v
+            off-EX (yes h) = h
+            off-EX (no h) = absurd (P .prompt v (R v) l (rw x tt) (omega (arith, Q .ls-base v l)) (ready-by v l ih))
 
-    below : (k v : ℕ) → v < k → v < G .N → s v ≤ LS v
-    below zero v b l = absurd (omega arith)
-    below (suc k) v b l = one v l (λ u o. below k u (omega arith) (omega arith))
+    starts-below : (k v : ℕ) → v < k → v < G .N → s v ≤ LS v
+    starts-below zero v b l = absurd (omega arith)
+    starts-below (suc k) v b l = starts-if-earlier-do v l (λ u o. starts-below k u (omega arith) (omega arith))
 
     starts-by : (v : ℕ) → v < G .N → s v ≤ LS v
-    starts-by v l = below (suc v) v (omega arith) l
+    starts-by v l = starts-below (suc v) v (omega arith) l
 
     pub bounded : (v : ℕ) → v < G .N → Bounded G lat s R LS LF v
     bounded v l = record { ready = ready-by v l (λ u o. starts-by u (omega arith)); start = starts-by v l; finish = ends-by v l (starts-by v l) }

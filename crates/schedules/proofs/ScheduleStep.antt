@@ -7,17 +7,19 @@
 use Prim.Native.Nat.{ℕ, zero, suc, _≤_, _<_}
 use mathlib.Core.Path.{_≡_, sym}
 use mathlib.Core.Bool.{not}
-use mathlib.Core.Logic.{_⊎_, inl, inr}
+use mathlib.Core.Logic.{_⊎_, ⊎-elim}
 use native.Mathlib.Omega.{arith}
 use native.Mathlib.Decide.{decLe, decLt}
 use lib.Dec.{T, T-not}
-use Rattle.schedules.proofs.Counting.{count, count-mono}
-use Rattle.schedules.proofs.Net.{Net, Fits, Done, done-mono, busy, busy→, →busy, Sched}
+use Rattle.schedules.specs.inside.Counts.{countBelow}
+use Rattle.schedules.specs.inside.Nets.{Net, Fits, Done, busy, Sched}
+use Rattle.schedules.proofs.Counting.{count-mono}
+use Rattle.schedules.proofs.NetLaws.{done-mono, busy→, →busy}
 
 -- v may start in cycle H of a play whose starts, with those of this cycle so far, are s′
 pub record May (G : Net) (lat : ℕ → ℕ) (H : ℕ) (s′ : ℕ → ℕ) (v : ℕ) : Type 0 where
   pub ready : Done G lat s′ v H
-  pub unit : T (G .ex v) → count (G .N) (busy G lat s′ v H) < G .units (G .kind v)
+  pub unit : T (G .ex v) → countBelow (G .N) (busy G lat s′ v H) < G .units (G .kind v)
 
 -- the cycle H takes the starts s to s′
 pub record Next (G : Net) (lat : ℕ → ℕ) (H : ℕ) (s s′ : ℕ → ℕ) : Type 0 where
@@ -38,26 +40,18 @@ empty-sched G lat s z =
 module _ (G : Net) (lat : ℕ → ℕ) (F : Fits G lat) (H : ℕ) (s s′ : ℕ → ℕ) (P : Sched G lat H s) (X : Next G lat H s s′) where
   -- before H the two agree
   same-below : (v : ℕ) → v < G .N → s′ v < H → s v ≡ s′ v
-  same-below v l h = go (decLe H (s v))
+  same-below v l h = by-start (decLe H (s v))
     where
-      late : ((s′ v ≡ H) × May G lat H s′ v) ⊎ ((s′ v ≡ suc H) × (May G lat H s′ v → ⊥)) → s v ≡ s′ v
-      late (inl q) = absurd (omega (arith, q .0))
-      late (inr q) = absurd (omega (arith, q .0))
-
-      go : Dec (H ≤ s v) → s v ≡ s′ v
-      go (yes g) = late (X .fresh v l g)
-      go (no g) = sym (X .keep v l (omega arith))
+      by-start : Dec (H ≤ s v) → s v ≡ s′ v
+      by-start (yes g) = ⊎-elim (λ q. absurd (omega (arith, q .0))) (λ q. absurd (omega (arith, q .0))) (X .fresh v l g)
+      by-start (no g) = sym (X .keep v l (omega arith))
 
   at-most : (v : ℕ) → v < G .N → s′ v ≤ suc H
-  at-most v l = go (decLe H (s v))
+  at-most v l = by-start (decLe H (s v))
     where
-      late : ((s′ v ≡ H) × May G lat H s′ v) ⊎ ((s′ v ≡ suc H) × (May G lat H s′ v → ⊥)) → s′ v ≤ suc H
-      late (inl q) = omega (arith, q .0)
-      late (inr q) = omega (arith, q .0)
-
-      go : Dec (H ≤ s v) → s′ v ≤ suc H
-      go (yes g) = late (X .fresh v l g)
-      go (no g) = omega (arith, X .keep v l (omega arith))
+      by-start : Dec (H ≤ s v) → s′ v ≤ suc H
+      by-start (yes g) = ⊎-elim (λ q. omega (arith, q .0)) (λ q. omega (arith, q .0)) (X .fresh v l g)
+      by-start (no g) = omega (arith, X .keep v l (omega arith))
 
   -- what runs at a time before H is the same in both
   busy-back : (v t : ℕ) → t < H → (u : ℕ) → u < G .N → T (busy G lat s′ v t u) → T (busy G lat s v t u)
@@ -94,33 +88,25 @@ module _ (G : Net) (lat : ℕ → ℕ) (F : Fits G lat) (H : ℕ) (s s′ : ℕ 
 
   -- what started at H might, and what is left could not
   at-H : (v : ℕ) → v < G .N → s′ v ≡ H → May G lat H s′ v
-  at-H v l e = go (decLe H (s v))
+  at-H v l e = by-start (decLe H (s v))
     where
-      late : ((s′ v ≡ H) × May G lat H s′ v) ⊎ ((s′ v ≡ suc H) × (May G lat H s′ v → ⊥)) → May G lat H s′ v
-      late (inl q) = q .1
-      late (inr q) = absurd (omega (arith, q .0))
-
-      go : Dec (H ≤ s v) → May G lat H s′ v
-      go (yes g) = late (X .fresh v l g)
-      go (no g) = absurd (omega (arith, X .keep v l (omega arith)))
+      by-start : Dec (H ≤ s v) → May G lat H s′ v
+      by-start (yes g) = ⊎-elim (λ q. q .1) (λ q. absurd (omega (arith, q .0))) (X .fresh v l g)
+      by-start (no g) = absurd (omega (arith, X .keep v l (omega arith)))
 
   left : (v : ℕ) → v < G .N → H < s′ v → May G lat H s′ v → ⊥
-  left v l e m = go (decLe H (s v))
+  left v l e m = by-start (decLe H (s v))
     where
-      late : ((s′ v ≡ H) × May G lat H s′ v) ⊎ ((s′ v ≡ suc H) × (May G lat H s′ v → ⊥)) → ⊥
-      late (inl q) = omega (arith, q .0)
-      late (inr q) = q .1 m
-
-      go : Dec (H ≤ s v) → ⊥
-      go (yes g) = late (X .fresh v l g)
-      go (no g) = omega (arith, X .keep v l (omega arith))
+      by-start : Dec (H ≤ s v) → ⊥
+      by-start (yes g) = ⊎-elim (λ q. omega (arith, q .0)) (λ q. q .1 m) (X .fresh v l g)
+      by-start (no g) = omega (arith, X .keep v l (omega arith))
 
   before : (v t : ℕ) → v < G .N → t < H → t < s′ v → t < s v
-  before v t l h g = go (decLe H (s v))
+  before v t l h g = by-start (decLe H (s v))
     where
-      go : Dec (H ≤ s v) → t < s v
-      go (yes k) = omega arith
-      go (no k) = omega (arith, X .keep v l (omega arith))
+      by-start : Dec (H ≤ s v) → t < s v
+      by-start (yes k) = omega arith
+      by-start (no k) = omega (arith, X .keep v l (omega arith))
 
   -- THE STEP
   pub next-sched : Sched G lat (suc H) s′
@@ -134,46 +120,46 @@ module _ (G : Net) (lat : ℕ → ℕ) (F : Fits G lat) (H : ℕ) (s s′ : ℕ 
       }
     where
       ready : (v : ℕ) → v < G .N → s′ v < suc H → Done G lat s′ v (s′ v)
-      ready v l h = go (decLt (s′ v) H)
+      ready v l h = by-time (decLt (s′ v) H)
         where
-          go : Dec (s′ v < H) → Done G lat s′ v (s′ v)
-          go (yes k) = let q = same-below v l k in rw (← q) (done-on v (s v) l (omega arith) (P .ready v l (omega arith)))
-          go (no k) = let q : s′ v ≡ H = omega arith in rw q (at-H v l q .ready)
+          by-time : Dec (s′ v < H) → Done G lat s′ v (s′ v)
+          by-time (yes k) = let q = same-below v l k in rw (← q) (done-on v (s v) l (omega arith) (P .ready v l (omega arith)))
+          by-time (no k) = let q : s′ v ≡ H = omega arith in rw q (at-H v l q .ready)
 
       prompt : (v t : ℕ) → v < G .N → T (not (G .ex v)) → t < s′ v → Done G lat s′ v t → ⊥
-      prompt v t l x h d = go (decLt t H)
+      prompt v t l x h d = by-time (decLt t H)
         where
-          go : Dec (t < H) → ⊥
-          go (yes k) = P .prompt v t l x (before v t l k h) (done-back v t l k d)
-          go (no k) =
+          by-time : Dec (t < H) → ⊥
+          by-time (yes k) = P .prompt v t l x (before v t l k h) (done-back v t l k d)
+          by-time (no k) =
               let g = at-most v l in
               left v l (omega arith) (record { ready = done-mono G lat s′ v t H (omega arith) d; unit = λ y. absurd (T-not (G .ex v) x y) })
 
-      waits : (v t : ℕ) → v < G .N → T (G .ex v) → t < s′ v → Done G lat s′ v t → G .units (G .kind v) ≤ count (G .N) (busy G lat s′ v t)
-      waits v t l x h d = go (decLt t H)
+      waits : (v t : ℕ) → v < G .N → T (G .ex v) → t < s′ v → Done G lat s′ v t → G .units (G .kind v) ≤ countBelow (G .N) (busy G lat s′ v t)
+      waits v t l x h d = by-time (decLt t H)
         where
-          at-end : Dec (count (G .N) (busy G lat s′ v H) < G .units (G .kind v)) → t ≡ H → G .units (G .kind v) ≤ count (G .N) (busy G lat s′ v t)
+          at-end : Dec (countBelow (G .N) (busy G lat s′ v H) < G .units (G .kind v)) → t ≡ H → G .units (G .kind v) ≤ countBelow (G .N) (busy G lat s′ v t)
           at-end (yes k) q = absurd (left v l (omega arith) (record { ready = done-mono G lat s′ v t H (omega arith) d; unit = λ y. k }))
           at-end (no k) q = rw q (omega arith)
 
-          go : Dec (t < H) → G .units (G .kind v) ≤ count (G .N) (busy G lat s′ v t)
-          go (yes k) =
+          by-time : Dec (t < H) → G .units (G .kind v) ≤ countBelow (G .N) (busy G lat s′ v t)
+          by-time (yes k) =
               omega (
                 arith,
                 P .waits v t l x (before v t l k h) (done-back v t l k d),
                 count-mono (G .N) (busy G lat s v t) (busy G lat s′ v t) (busy-on v t k),
               )
-          go (no k) = let g = at-most v l in at-end (decLt (count (G .N) (busy G lat s′ v H)) (G .units (G .kind v))) (omega arith)
+          by-time (no k) = let g = at-most v l in at-end (decLt (countBelow (G .N) (busy G lat s′ v H)) (G .units (G .kind v))) (omega arith)
 
-      room : (v : ℕ) → v < G .N → T (G .ex v) → s′ v < suc H → count (G .N) (busy G lat s′ v (s′ v)) < G .units (G .kind v)
-      room v l x h = go (decLt (s′ v) H)
+      room : (v : ℕ) → v < G .N → T (G .ex v) → s′ v < suc H → countBelow (G .N) (busy G lat s′ v (s′ v)) < G .units (G .kind v)
+      room v l x h = by-time (decLt (s′ v) H)
         where
-          go : Dec (s′ v < H) → count (G .N) (busy G lat s′ v (s′ v)) < G .units (G .kind v)
-          go (yes k) =
+          by-time : Dec (s′ v < H) → countBelow (G .N) (busy G lat s′ v (s′ v)) < G .units (G .kind v)
+          by-time (yes k) =
               let q = same-below v l k in
               omega (
                 arith,
                 rw q at (P .room v l x (omega arith)),
                 count-mono (G .N) (busy G lat s′ v (s′ v)) (busy G lat s v (s′ v)) (busy-back v (s′ v) k),
               )
-          go (no k) = let q : s′ v ≡ H = omega arith in rw q (at-H v l q .unit x)
+          by-time (no k) = let q : s′ v ≡ H = omega arith in rw q (at-H v l q .unit x)

@@ -1,1 +1,2 @@
-// Why plays stay inside their limits: every play is a schedule, and every schedule ends. No code: proofs/ is what it holds.
+// Why plays stay inside their limits: every play is a schedule, and every schedule ends. No code: specs/inside has the words
+// of these statements, proofs/ has them.

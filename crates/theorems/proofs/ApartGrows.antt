@@ -9,7 +9,7 @@ use Prim.Native.Nat.{ℕ, zero, suc, _+_, _-_, _≤_, _<_, min, max}
 use mathlib.Core.Path.{_≡_, sym, ap, _∙_}
 use mathlib.Core.Bool.{Bool, true, false, not, false≢true}
 use mathlib.Core.List.{List, map}
-use mathlib.Core.Logic.{_⊎_, inl, inr}
+use mathlib.Core.Logic.{inl, inr, ⊎-elim}
 use native.Mathlib.Omega.{arith}
 use Rattle.lists.specs.Lists.{numbersWhere}
 use Rattle.lists.specs.Sums.{largest, sum}
@@ -28,7 +28,7 @@ use Rattle.model.proofs.PairSets.{count-ext, count-zero}
 use Rattle.model.proofs.RoundsEnd.{windows-settled}
 use Rattle.model.proofs.Latencies.{lowest-some}
 use Rattle.model.proofs.RoundRules.{Clear, apart-clear, clear-apart}
-use Rattle.schedules.proofs.Counting.{wt}
+use Rattle.schedules.specs.inside.Counts.{valueIf}
 use Rattle.schedules.proofs.BlockNet.{ready-done, done-ready, sum-more}
 use Rattle.theorems.specs.RoundByRound.{knownAt, lateAt, apartBy, apartAt}
 use Rattle.theorems.proofs.KnownPairs.{found, none-first, found-apart, apart-found, kept-or-found, kept, found-known, last-round}
@@ -46,7 +46,7 @@ module _ (p q : ℕ → Bool) (n : ℕ) (fewer : (k : ℕ) → k < n → p k ≡
       let j = in-numbersWhere q a c (w .0) (k .0) (k .1) (fewer (w .0) (omega (arith, k .1)) (k .2)) in
       omega (arith, w .2, h (w .0) (k .1), largest-in (map g (numbersWhere a c q)) (g (w .0)) (map-in g (w .0) (numbersWhere a c q) j)))
 
-  one-fewer : (k x : ℕ) → k < n → wt (p k) x ≤ wt (q k) x
+  one-fewer : (k x : ℕ) → k < n → valueIf (p k) x ≤ valueIf (q k) x
   one-fewer k x l = by-test (p k) (λ t. rw (t, fewer k l t) (omega arith)) (λ f. rw f (omega arith))
 
   sum-fewer : (f : ℕ → ℕ) (c : ℕ) → c ≤ n → sum (map f (numbersWhere 0 c p)) ≤ sum (map f (numbersWhere 0 c q))
@@ -79,9 +79,10 @@ module _ (b : Block) (A : Ranges b) where
         (λ k. absurd (false≢true (sym (ap not (contains i j hi hj k)) ∙ and-right (has (contending b) i j) (not (has more i j)) t)))
         (λ k. ap not k))
 
-    one : (v : ℕ) → v < nodes b → ((u : ℕ) → u < v → start (late b more) u ≤ start (late b known) u) → start (late b more) v ≤ start (late b known) v
+    falls-if-earlier-do : (v : ℕ) → v < nodes b → ((u : ℕ) → u < v → start (late b more) u ≤ start (late b known) u)
+        → start (late b more) v ≤ start (late b known) v
     unfolding R finish
-    one v l ih =
+    falls-if-earlier-do v l ih =
         by-test (isEX v)
         (λ t.
         let i : ℕ = instruction v in
@@ -99,13 +100,13 @@ module _ (b : Block) (A : Ranges b) where
         r : ready b (highest b) (late b more) v ≤ ready b (highest b) (late b known) v
         r = ready-mono (highest b) (late b more) (late b known) v ih
 
-    below : (k v : ℕ) → v < k → v < nodes b → start (late b more) v ≤ start (late b known) v
-    below zero v h l = absurd (omega arith)
-    below (suc k) v h l = one v l (λ u o. below k u (omega arith) (omega arith))
+    falls-below : (k v : ℕ) → v < k → v < nodes b → start (late b more) v ≤ start (late b known) v
+    falls-below zero v h l = absurd (omega arith)
+    falls-below (suc k) v h l = falls-if-earlier-do v l (λ u o. falls-below k u (omega arith) (omega arith))
 
     -- MORE PAIRS APART, NO LATER TIMES
     pub round-mono : (v : ℕ) → v < nodes b → start (late b more) v ≤ start (late b known) v
-    round-mono v l = below (suc v) v (omega arith) l
+    round-mono v l = falls-below (suc v) v (omega arith) l
 
   -- ---- the rounds one by one
 
@@ -120,29 +121,21 @@ module _ (b : Block) (A : Ranges b) where
   next-apart k i j hi hj t =
       let c = apart-clear b (earliest b) (lateAt b k) i j (and-right contends (apart b (earliest b) (lateAt b k) i j) t) in
       and-both contends (apart b (earliest b) (lateAt b (suc k)) i j) (and-left contends (apart b (earliest b) (lateAt b k) i j) t)
-      (clear-apart b (earliest b) (lateAt b (suc k)) i j (go c))
+      (clear-apart b (earliest b) (lateAt b (suc k)) i j (still-clear c))
     where
       contends : Bool
       contends = has (contending b) i j
 
-      go : Clear b (earliest b) (lateAt b k) i j → Clear b (earliest b) (lateAt b (suc k)) i j
-      go (inl c) = inl (omega (arith, c, late-falls k (node EX i) (omega arith)))
-      go (inr c) = inr (omega (arith, c, late-falls k (node EX j) (omega arith)))
+      still-clear : Clear b (earliest b) (lateAt b k) i j → Clear b (earliest b) (lateAt b (suc k)) i j
+      still-clear (inl c) = inl (omega (arith, c, late-falls k (node EX i) (omega arith)))
+      still-clear (inr c) = inr (omega (arith, c, late-falls k (node EX j) (omega arith)))
 
   -- ---- the pairs kept are the pairs found anew
   module _ (i j : ℕ) (hi : i < b .n) (hj : j < b .n) where
     known-clear : (k : ℕ) → has (knownAt b (suc k)) i j ≡ true → apartAt b k i j ≡ true
-    known-clear zero t = go (kept-or-found b zero i j hi hj t)
-      where
-        go : (has (knownAt b zero) i j ≡ true) ⊎ (found b zero i j ≡ true) → apartAt b zero i j ≡ true
-        go (inl f) = absurd (none-first b i j f)
-        go (inr f) = found-apart b zero i j f
-    known-clear (suc k) t = go (known-clear k) (kept-or-found b (suc k) i j hi hj t)
-      where
-        go : (has (knownAt b (suc k)) i j ≡ true → apartAt b k i j ≡ true) → (has (knownAt b (suc k)) i j ≡ true) ⊎ (found b (suc k) i j ≡ true)
-            → apartAt b (suc k) i j ≡ true
-        go ih (inl f) = next-apart k i j hi hj (ih f)
-        go ih (inr f) = found-apart b (suc k) i j f
+    known-clear zero t = ⊎-elim (λ f. absurd (none-first b i j f)) (found-apart b zero i j) (kept-or-found b zero i j hi hj t)
+    known-clear (suc k) t =
+        ⊎-elim (λ f. next-apart k i j hi hj (known-clear k f)) (found-apart b (suc k) i j) (kept-or-found b (suc k) i j hi hj t)
 
     clear-known : (k : ℕ) → apartAt b k i j ≡ true → has (knownAt b (suc k)) i j ≡ true
     clear-known k t =
@@ -164,14 +157,10 @@ module _ (b : Block) (A : Ranges b) where
 
   -- so the pairs known in it are those known after it
   same-known : (i j : ℕ) → i < j → j < b .n → has (knownAt b last) i j ≡ has (knownAt b (suc last)) i j
-  same-known i j h l = same-test (has (knownAt b last) i j) (has (knownAt b (suc last)) i j) (kept b last i j hi l) (λ t. go (kept-or-found b last i j hi l t))
-    where
-      hi : i < b .n
-      hi = omega arith
-
-      go : (has (knownAt b last) i j ≡ true) ⊎ (found b last i j ≡ true) → has (knownAt b last) i j ≡ true
-      go (inl t) = t
-      go (inr t) = absurd (false≢true (sym (none-found i j h l) ∙ t))
+  same-known i j h l =
+      let hi : i < b .n = omega arith in
+      same-test (has (knownAt b last) i j) (has (knownAt b (suc last)) i j) (kept b last i j hi l)
+      (λ t. ⊎-elim (λ k. k) (λ f. absurd (false≢true (sym (none-found i j h l) ∙ f))) (kept-or-found b last i j hi l t))
 
   shown : (i j : ℕ) → i < j → j < b .n → has (windows b .known) i j ≡ apartBy b (windows b .late) i j
   shown i j h l =

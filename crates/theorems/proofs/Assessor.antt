@@ -1,7 +1,7 @@
 -- What answers the assessor's three questions. Assumes nothing.
 use Prim.Native.Nat.{ℕ, _+_, _*_, _≤_, _<_}
 use mathlib.Core.Path.{_≡_, refl, ap, _∙_}
-use mathlib.Core.List.{List, [], _∷_}
+use mathlib.Core.List.{List}
 use native.Mathlib.Omega.{arith}
 use lib.ListN.{getD}
 use Rattle.lists.specs.Bytes.{little}
@@ -16,12 +16,11 @@ use Rattle.record.proofs.AcceptedRanges.{ranges}
 use Rattle.model.specs.Nodes.{EX, nodes, node, chosen}
 use Rattle.model.specs.Cycles.{start, play}
 use Rattle.model.specs.Rounds.{windows}
-use Rattle.model.specs.Blocks.{blockE}
 use Rattle.analysis.specs.Result.{result}
 use Rattle.analysis.specs.Promises.{Analyses}
 use Rattle.analysis.proofs.Outcomes.{analyse-fine}
 use Rattle.play.proofs.Outcomes.{accepted-so}
-use Rattle.theorems.specs.Words.{AcceptedBlock, ByteLatencies, AcceptedList, Anomaly}
+use Rattle.theorems.specs.Words.{AcceptedBlock, ByteLatencies, AcceptedList, AnomalyOfE}
 use Rattle.theorems.proofs.PlaysInside.{late-below}
 use Rattle.theorems.proofs.ResultBytes.{origin-byte, number-bytes, analysed-result, copied-number, copied-origin}
 use Rattle.theorems.proofs.LongestLatencies.{worst-E}
@@ -47,7 +46,7 @@ origin-copied s o o' r a u y f x e =
 
 -- WHY A RUN WITH EVERY LATENCY AT ITS LONGEST FINISHED SOONER THAN THE REAL ONE: so does block E, at 23; with its first
 -- latency at 1 it ends at 27, which is its bound
-pub anomaly : Anomaly blockE (1 ∷ 4 ∷ 4 ∷ 12 ∷ []) 23 27
+pub anomaly : AnomalyOfE
 anomaly = worst-E
 
 -- WHETHER AN INSTRUCTION CAN WAIT FOR ITS UNIT WITHOUT END: no. In every play it starts by its latest start, before 513 n

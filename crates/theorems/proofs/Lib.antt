@@ -5,6 +5,7 @@ pub mod ApartGrows
 pub mod PlaysInside
 pub mod TablesWithin
 pub mod ResultBytes
+pub mod OutcomesInside
 pub mod LongestLatencies
 pub mod Demand
 pub mod Assessor

@@ -12,7 +12,7 @@ use Rattle.model.specs.Blocks.{blockE}
 use Rattle.model.specs.Worked.{summary, worked}
 use Rattle.model.proofs.WorkedResults.{worked-by-hand, blocks-accepted}
 use Rattle.play.specs.Refusals.{wrong, listTest, latencyTest, listTests}
-use Rattle.theorems.specs.Words.{ByteLatencies, AcceptedList, longest, Anomaly}
+use Rattle.theorems.specs.Words.{ByteLatencies, AcceptedList, longest, AnomalyOfE}
 
 longest-E : longest blockE ≡ 4 ∷ 4 ∷ 4 ∷ 12 ∷ []
 unfolding longest tab tabFrom blockE
@@ -30,7 +30,7 @@ bytes-E (suc (suc zero)) = omega arith
 bytes-E (suc (suc (suc zero))) = omega arith
 bytes-E (suc (suc (suc (suc i)))) = rw (getD-all noEntry 56 i) (omega arith)
 
-pub worst-E : Anomaly blockE (1 ∷ 4 ∷ 4 ∷ 12 ∷ []) 23 27
+pub worst-E : AnomalyOfE
 unfolding worked summary
 worst-E =
     let first : List ℕ → ℕ = λ xs. getD xs 0 0 in

@@ -9,10 +9,10 @@ use Prim.Native.Nat.{ℕ, _+_, _*_, _/_, _≤_, _<_, min, max}
 use mathlib.Core.Path.{_≡_, refl, sym, ap, _∙_}
 use mathlib.Core.Bool.{Bool, true, false, _&&_, and-true}
 use mathlib.Core.List.{List}
-use mathlib.Core.Logic.{_⊎_, inl, inr}
+use mathlib.Core.Logic.{_⊎_, inl, inr, ⊎-elim}
 use native.Mathlib.Omega.{arith}
 use native.Mathlib.Nat.{div-le-self}
-use lib.Dec.{T, ltb}
+use lib.Dec.{T, ltb, eqb, T-not}
 use borrow.Author.Tests.{eqb-true, eq-eqb, ltb-true, lt-ltb, le-ltb}
 use Rattle.lists.specs.Lists.{In, numbersWhere}
 use Rattle.lists.specs.Sums.{largest, sum}
@@ -31,9 +31,10 @@ use Rattle.model.proofs.TimesInOrder.{earliest-is, round-is}
 use Rattle.model.proofs.Contention.{contend-or-path}
 use Rattle.model.proofs.Latencies.{lowest-some}
 use Rattle.model.proofs.RoundRules.{highs, ends, held, EX-short}
-use Rattle.schedules.proofs.Counting.{wt, sum-front, max-least}
-use Rattle.schedules.proofs.Net.{Net, Way, by-fin, by-ord, then-fin, then-ord, Done}
-use Rattle.schedules.proofs.RoundsBound.{Early, earlier, base, early-sum, early-last, Round}
+use Rattle.schedules.specs.inside.Counts.{valueIf}
+use Rattle.schedules.specs.inside.Nets.{Net, Way, by-fin, by-ord, then-fin, then-ord, Done}
+use Rattle.schedules.specs.inside.RoundInequalities.{Early, earlier, base, early-sum, early-last, other, Round}
+use Rattle.schedules.proofs.Counting.{sum-front, max-least}
 use Rattle.schedules.proofs.BlockNet.{T-true, true-T, net, ready-done, done-ready, sum-EX}
 
 -- an EX by its instruction
@@ -42,8 +43,8 @@ EX-node v t = omega (arith, eqb-true (stage v) EX t)
 
 -- two EX whose instructions are known to be apart
 pub record Parted (known : Pairs) (u v : ℕ) : Type 0 where
-  pub one : isEX u ≡ true
-  pub other : isEX v ≡ true
+  pub u-EX : isEX u ≡ true
+  pub v-EX : isEX v ≡ true
   pub known-so : has known (instruction v) (instruction u) ≡ true
 
 module _ (b : Block) (A : Ranges b) where
@@ -55,7 +56,8 @@ module _ (b : Block) (A : Ranges b) where
   pub earliest-early : Early G (start (earliest b))
   earliest-early =
       record {
-        least = λ v x l f o. omega (arith, earliest-is b A v l, done-ready b A (lowest b) (lowest-some b A) (lowest b) (earliest b) v x (record { fin = f; ord = o }));
+        least = λ v x l f o.
+            omega (arith, earliest-is b A v l, done-ready b A (lowest b) (lowest-some b A) (lowest b) (earliest b) v x (record { fin = f; ord = o }));
       }
 
   -- ---- paths of the model are paths of the net
@@ -64,16 +66,8 @@ module _ (b : Block) (A : Ranges b) where
   edge-way u v i = in-split u (finishInto b v) (orderInto b v) (i .from)
 
   pub path-way : (u v : ℕ) → Path b u v → Way G u v
-  path-way u v (edge i) = go (edge-way u v i)
-    where
-      go : In u (finishInto b v) ⊎ In u (orderInto b v) → Way G u v
-      go (inl f) = by-fin f
-      go (inr o) = by-ord o
-  path-way u v (on {x = x} p i) = go (path-way u x p) (edge-way x v i)
-    where
-      go : Way G u x → In x (finishInto b v) ⊎ In x (orderInto b v) → Way G u v
-      go w (inl f) = then-fin w f
-      go w (inr o) = then-ord w o
+  path-way u v (edge i) = ⊎-elim by-fin by-ord (edge-way u v i)
+  path-way u v (on {x = x} p i) = ⊎-elim (then-fin (path-way u x p)) (then-ord (path-way u x p)) (edge-way x v i)
 
 -- ---- one round, with these pairs known to be apart
 module _ (b : Block) (known : Pairs) where
@@ -94,11 +88,11 @@ module _ (b : Block) (known : Pairs) where
   module _ (A : Ranges b) where
     -- ---- every two EX of one kind may delay each other, are joined by a path, or are apart
     cover : (v u : ℕ) → v < nodes b → u < nodes b → T (isEX v) → T (isEX u)
-        → entry b (instruction u) .kind ≡ entry b (instruction v) .kind → (u ≡ v → ⊥)
+        → entry b (instruction u) .kind ≡ entry b (instruction v) .kind → T (other u v)
         → T (delays v u) ⊎ (Way (G b A) u v ⊎ (Way (G b A) v u ⊎ Parted known u v))
     unfolding rival
     cover v u lv lu xv xu kinds two =
-        go (contend-or-path b A i j (omega arith) (omega arith) (λ e. two (sym (EX-node u tu) ∙ rw (sym e) (EX-node v tv))) (sym kinds))
+        by-contention (contend-or-path b A i j (omega arith) (omega arith) differ (sym kinds))
       where
         i : ℕ
         i = instruction v
@@ -112,14 +106,17 @@ module _ (b : Block) (known : Pairs) where
         tu : isEX u ≡ true
         tu = T-true (isEX u) xu
 
-        go : (has (contending b) i j ≡ true) ⊎ (Path b (node EX i) (node EX j) ⊎ Path b (node EX j) (node EX i))
+        differ : i ≡ j → ⊥
+        differ e = T-not (eqb u v) two (true-T (eqb u v) (eq-eqb u v (sym (EX-node u tu) ∙ rw (sym e) (EX-node v tv))))
+
+        by-contention : (has (contending b) i j ≡ true) ⊎ (Path b (node EX i) (node EX j) ⊎ Path b (node EX j) (node EX i))
             → T (delays v u) ⊎ (Way (G b A) u v ⊎ (Way (G b A) v u ⊎ Parted known u v))
-        go (inl c) =
+        by-contention (inl c) =
             by-test (has known i j)
-            (λ t. inr (inr (inr (record { one = tu; other = tv; known-so = t }))))
+            (λ t. inr (inr (inr (record { u-EX = tu; v-EX = tv; known-so = t }))))
             (λ f. inl (true-T (delays v u) (rw (tu, c, f) refl)))
-        go (inr (inl p)) = inr (inr (inl (path-way b A v u (rw (← EX-node v tv, ← EX-node u tu) p))))
-        go (inr (inr p)) = inr (inl (path-way b A u v (rw (← EX-node v tv, ← EX-node u tu) p)))
+        by-contention (inr (inl p)) = inr (inr (inl (path-way b A v u (rw (← EX-node v tv, ← EX-node u tu) p))))
+        by-contention (inr (inr p)) = inr (inl (path-way b A u v (rw (← EX-node v tv, ← EX-node u tu) p)))
 
     -- ---- the rules at an EX
     module _ (v : ℕ) (l : v < nodes b) (t : isEX v ≡ true) where
@@ -146,11 +143,11 @@ module _ (b : Block) (known : Pairs) where
       base-most =
           omega (
             arith,
-            max-least (nodes b) (λ u. wt (delaysLater v u) (highest b u)) (max (largest (highs b after)) 1)
+            max-least (nodes b) (λ u. valueIf (delaysLater v u) (highest b u)) (max (largest (highs b after)) 1)
                 (λ u m. by-test (delaysLater v u) (yes-later u m) (λ f. rw f (omega arith))),
           )
         where
-          yes-later : (u : ℕ) → u < nodes b → delaysLater v u ≡ true → wt (delaysLater v u) (highest b u) ≤ max (largest (highs b after)) 1
+          yes-later : (u : ℕ) → u < nodes b → delaysLater v u ≡ true → valueIf (delaysLater v u) (highest b u) ≤ max (largest (highs b after)) 1
           yes-later u m d =
               let x : isEX u ≡ true = and-left (isEX u) _ (and-left (delays v u) (ltb v u) d) in
               let e : node EX (instruction u) ≡ u = EX-node u x in
@@ -164,7 +161,7 @@ module _ (b : Block) (known : Pairs) where
       earlier-EX : (u : ℕ) → isEX u ≡ false → earlier delays v u ≡ false
       earlier-EX u f = rw f refl
 
-      none-from : (u : ℕ) → 5 * i ≤ u → wt (earlier delays v u) (highest b u) ≡ 0
+      none-from : (u : ℕ) → 5 * i ≤ u → valueIf (earlier delays v u) (highest b u) ≡ 0
       none-from u m =
           by-test (isEX u)
           (λ x. let f : ltb u v ≡ false = le-ltb u v (omega (arith, EX-node u x, EX-node v t)) in by-test (delays v u) (λ d. rw (d, f) refl) (λ d. rw d refl))
@@ -180,7 +177,7 @@ module _ (b : Block) (known : Pairs) where
       sum-most : early-sum (G b A) delays v ≡ sum (highs b before)
       unfolding early-sum
       sum-most =
-          sum-front (5 * i) (nodes b) (λ u. wt (earlier delays v u) (highest b u)) (omega arith) none-from
+          sum-front (5 * i) (nodes b) (λ u. valueIf (earlier delays v u) (highest b u)) (omega arith) none-from
           ∙ sum-EX (earlier delays v) earlier-EX (highest b) i
           ∙ ap (λ (js : List ℕ). sum (highs b js)) (numbersWhere-ext (λ j. earlier delays v (node EX j)) (rivals i) 0 i (λ j a m. at-numbersWhere j m))
 
@@ -188,10 +185,10 @@ module _ (b : Block) (known : Pairs) where
       last-most : early-last (G b A) delays (λ u. start late u + highest b u) v ≤ largest (ends b late before)
       unfolding early-last finish
       last-most =
-          max-least (nodes b) (λ u. wt (earlier delays v u) (start late u + highest b u)) (largest (ends b late before))
+          max-least (nodes b) (λ u. valueIf (earlier delays v u) (start late u + highest b u)) (largest (ends b late before))
           (λ u m. by-test (earlier delays v u) (yes-earlier u) (λ f. rw f (omega arith)))
         where
-          yes-earlier : (u : ℕ) → earlier delays v u ≡ true → wt (earlier delays v u) (start late u + highest b u) ≤ largest (ends b late before)
+          yes-earlier : (u : ℕ) → earlier delays v u ≡ true → valueIf (earlier delays v u) (start late u + highest b u) ≤ largest (ends b late before)
           yes-earlier u d =
               let x : isEX u ≡ true = and-left (isEX u) _ (and-left (delays v u) (ltb u v) d) in
               let e : node EX (instruction u) ≡ u = EX-node u x in
@@ -202,7 +199,8 @@ module _ (b : Block) (known : Pairs) where
               rw d (omega (arith, w, ap (λ (x : ℕ). start late x + highest b x) e))
 
       -- so the latest start allows for both bounds. The sum is not divided among the units, and undivided it is no less
-      EX-late : min (B + early-sum (G b A) delays v / G b A .units (G b A .kind v)) (max B (early-last (G b A) delays (λ u. start late u + highest b u) v)) ≤ start late v
+      EX-late : min (B + early-sum (G b A) delays v / G b A .units (G b A .kind v)) (max B (early-last (G b A) delays (λ u. start late u + highest b u) v))
+          ≤ start late v
       EX-late = omega (arith, at-EX, base-most, sum-most, last-most, div-le-self (early-sum (G b A) delays v) (G b A .units (G b A .kind v)))
 
     pub off-EX : (v : ℕ) → v < nodes b → isEX v ≡ false → start late v ≡ R b late v

@@ -1,8 +1,8 @@
 -- Every play of an accepted block is a schedule that fits its net; so it stays inside the windows, in every cycle. Assumes
 -- nothing.
 use Prim.Native.Nat.{ℕ, _+_, _-_, _*_, _≤_, _<_}
-use mathlib.Core.Path.{_≡_, sym, ap, _∙_}
-use mathlib.Core.Bool.{true, false, false≢true}
+use mathlib.Core.Path.{_≡_, ap, _∙_}
+use mathlib.Core.Bool.{true}
 use mathlib.Core.List.{List}
 use mathlib.Core.Logic.{_⊎_, inl, inr}
 use native.Mathlib.Omega.{arith}
@@ -12,20 +12,20 @@ use borrow.Author.Tests.{leb-true, leb-false}
 use Rattle.lists.proofs.Bools.{by-test}
 use Rattle.record.specs.declared.Block.{Block}
 use Rattle.record.proofs.AcceptedRanges.{Ranges, ranges}
-use Rattle.model.specs.Nodes.{nodes, instruction, lowest, highest, chosen}
-use Rattle.model.specs.Cycles.{State, notStarted, start, started, finish, firstState, allStarted, playOn, play, ready}
-use Rattle.model.specs.Rounds.{earliest, R, windows}
+use Rattle.model.specs.Nodes.{CM, nodes, node, instruction, lowest, highest, chosen}
+use Rattle.model.specs.Cycles.{State, notStarted, start, started, finish, firstState, allStarted, playOn, play, playLength, ready}
+use Rattle.model.specs.Rounds.{earliest, R, windows, bound}
 use Rattle.model.proofs.TimesInOrder.{earliest-is}
 use Rattle.model.proofs.Limits.{windows-limit}
 use Rattle.model.proofs.Latencies.{latency-mono, lowest-some, lowest-highest}
-use Rattle.schedules.proofs.Net.{Fits, Sched}
+use Rattle.schedules.specs.inside.Nets.{Fits, Sched}
 use Rattle.schedules.proofs.RoundsBound.{early-ready}
 use Rattle.schedules.proofs.BlockNet.{ready-done, done-ready}
-use Rattle.schedules.proofs.CycleTurns.{seen, started-yes, unstarted-start}
+use Rattle.schedules.proofs.CycleTurns.{seen, started-yes}
 use Rattle.schedules.proofs.PlaySchedule.{each-allStarted, allStarted-more, Played, Stopped, first-played, playOn-played}
 use Rattle.schedules.proofs.PlayEnds.{play-started, play-sched}
 use Rattle.play.proofs.LatencyList.{ranged}
-use Rattle.theorems.specs.Words.{AcceptedBlock, ByteLatencies, AcceptedList, Inside}
+use Rattle.theorems.specs.Words.{AcceptedBlock, ByteLatencies, AcceptedList, Inside, StartsInTime}
 use Rattle.theorems.proofs.ModelRounds.{G, earliest-early}
 use Rattle.theorems.proofs.WindowsBound.{Late, windows-bound}
 
@@ -74,6 +74,11 @@ module _ (b : Block) (accepted : AcceptedBlock b) (bytes : ByteLatencies b) (lat
         finishIn = record { from = omega (arith, early-first v l, ready-start v l, fits .low v l); to = by-windows v l .finish };
       }
 
+  -- the last commit is by the bound
+  pub length-bound : playLength b lat ≤ bound b
+  unfolding playLength bound
+  length-bound = play-inside (node CM (b .n - 1)) (omega (arith, A .n .0)) .finishIn .to
+
   -- ---- the state after k cycles, or the one in which all have started if that is sooner
   module _ (k : ℕ) (few : k ≤ 30780) where
     abbrev state : State
@@ -89,15 +94,13 @@ module _ (b : Block) (accepted : AcceptedBlock b) (bytes : ByteLatencies b) (lat
     seen-by : (v : ℕ) → v < nodes b → seen (state .t) (state .starts) v ≤ start (windows b .late) v
     seen-by v l = windows-bound b A lat fits (state .t) (seen (state .t) (state .starts)) (stopped .0 .sched) v l .start
 
-    few-wait : (v : ℕ) → v < nodes b → started (state .starts) v ≡ false → k ≤ start (windows b .late) v
-    few-wait v l f = go (stopped .1 .at)
+    -- so what has its latest start before k has started
+    few-in-time : (v : ℕ) → v < nodes b → start (windows b .late) v < k → started (state .starts) v ≡ true
+    few-in-time v l h = started-yes (state .starts) v (omega (arith, stopped .0 .long)) (by-stop (stopped .1 .at))
       where
-        none : start (state .starts) v ≡ notStarted
-        none = unstarted-start (state .starts) v (omega (arith, stopped .0 .long)) f
-
-        go : (state .t ≡ k) ⊎ ((u : ℕ) → u < nodes b → start (state .starts) u < state .t) → k ≤ start (windows b .late) v
-        go (inl e) = omega (arith, seen-by v l, late-below b accepted bytes v l, A .n .1, none)
-        go (inr h) = omega (arith, seen-by v l, late-below b accepted bytes v l, A .n .1, none, h v l)
+        by-stop : (state .t ≡ k) ⊎ ((u : ℕ) → u < nodes b → start (state .starts) u < state .t) → start (state .starts) v < notStarted
+        by-stop (inl e) = omega (arith, seen-by v l)
+        by-stop (inr all) = omega (arith, seen-by v l, all v l)
 
   -- ---- after 513 n cycles
   last-few : 513 * b .n ≤ 30780
@@ -107,11 +110,7 @@ module _ (b : Block) (accepted : AcceptedBlock b) (bytes : ByteLatencies b) (lat
   last = playOn (513 * b .n) b lat firstState
 
   all-started : (v : ℕ) → v < nodes b → started (last .starts) v ≡ true
-  all-started v l = started-yes (last .starts) v (omega (arith, stopped (513 * b .n) last-few .0 .long)) (go (stopped (513 * b .n) last-few .1 .at))
-    where
-      go : (last .t ≡ 513 * b .n) ⊎ ((u : ℕ) → u < nodes b → start (last .starts) u < last .t) → start (last .starts) v < notStarted
-      go (inl e) = omega (arith, seen-by (513 * b .n) last-few v l, late-below b accepted bytes v l, last-few)
-      go (inr h) = omega (arith, seen-by (513 * b .n) last-few v l, late-below b accepted bytes v l, last-few, h v l)
+  all-started v l = few-in-time (513 * b .n) last-few v l (late-below b accepted bytes v l)
 
   pub last-allStarted : allStarted b last ≡ true
   last-allStarted = each-allStarted b last all-started
@@ -127,12 +126,10 @@ module _ (b : Block) (accepted : AcceptedBlock b) (bytes : ByteLatencies b) (lat
   last-play = ap (λ (p : State). p .starts) (past-last 30780 last-few)
 
   -- so nothing waits past its latest start, however many cycles are played
-  pub none-waits : (k v : ℕ) → v < nodes b → started (playOn k b lat firstState .starts) v ≡ false → k ≤ start (windows b .late) v
-  none-waits k v l f =
-      by-test (leb k 30780) (λ t. few-wait k (leb-true k 30780 t) v l f)
-      (λ t.
-      let e = ap (λ (p : State). started (p .starts) v) (past-last k (omega (arith, leb-false k 30780 t, last-few))) in
-      absurd (false≢true (sym f ∙ e ∙ all-started v l)))
+  pub starts-in-time : StartsInTime b lat
+  starts-in-time k v l h =
+      by-test (leb k 30780) (λ t. few-in-time k (leb-true k 30780 t) v l (omega arith))
+      (λ t. ap (λ (p : State). started (p .starts) v) (past-last k (omega (arith, leb-false k 30780 t, last-few))) ∙ all-started v l)
 
 -- ---- the latencies that an accepted list chooses
 pub chosen-fits : (b : Block) (accepted : AcceptedBlock b) (l : List ℕ) → AcceptedList b l → Fits (G b (ranges b accepted)) (chosen b l)

@@ -65,7 +65,8 @@ module _ (b : Block) where
         omega (arith, ap (λ (x : ℕ). getD (windowTable b) x 0) e, window-at b (k / 6) (k % 6) v q, each-few (k / 6) (k % 6) v q)
 
 -- ---- what the operations leave in their outputs has the tables at its front
-pub window-kept : (b : Block) (o o' : List ℕ) (a : Answer) → WritesWindows b o a o' → a ≡ Accepted → (k : ℕ) → k < 30 * b .n → getD o' k 0 ≡ getD (windowTable b) k 0
+pub window-kept : (b : Block) (o o' : List ℕ) (a : Answer) → WritesWindows b o a o' → a ≡ Accepted → (k : ℕ) → k < 30 * b .n
+    → getD o' k 0 ≡ getD (windowTable b) k 0
 unfolding tabled
 window-kept b o o' a x e k h =
     let i : o' ≡ windowTable b ++ drop (30 * b .n) o = x .output ∙ (rw (accepted-so a e (x .answer)) refl) in

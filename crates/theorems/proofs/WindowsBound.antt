@@ -18,8 +18,9 @@ use Rattle.model.specs.Paths.{has, contending}
 use Rattle.model.specs.Cycles.{start, finish}
 use Rattle.model.specs.Rounds.{earliest, R, apart, windows}
 use Rattle.model.proofs.RoundRules.{Clear, apart-clear}
-use Rattle.schedules.proofs.Net.{Fits, Sched}
-use Rattle.schedules.proofs.RoundsBound.{Bounded, bounded}
+use Rattle.schedules.specs.inside.Nets.{Fits, Sched}
+use Rattle.schedules.specs.inside.RoundInequalities.{Separates, Bounded}
+use Rattle.schedules.proofs.RoundsBound.{bounded}
 use Rattle.theorems.specs.RoundByRound.{knownAt, lateAt, apartBy}
 use Rattle.theorems.proofs.KnownPairs.{found, none-first, found-apart, kept-or-found, last-round}
 use Rattle.theorems.proofs.ModelRounds.{G, earliest-early, EX-node, delays, delaysLater, Parted, model-round}
@@ -31,9 +32,7 @@ module _ (b : Block) (A : Ranges b) (lat : ℕ → ℕ) (F : Fits (G b A) lat) (
 
   -- the pairs known in round k are apart in it
   abbrev Sound : ℕ → Type 0
-  Sound k =
-      (u v : ℕ) → u < nodes b → v < nodes b → Parted (knownAt b k) u v
-      → (s u + lat u ≤ start (earliest b) v) ⊎ (s v + lat v ≤ start (earliest b) u)
+  Sound k = Separates (G b A) lat s (start (earliest b)) (Parted (knownAt b k))
 
   module _ (k : ℕ) (S : Sound k) where
     abbrev late : List ℕ
@@ -61,7 +60,7 @@ module _ (b : Block) (A : Ranges b) (lat : ℕ → ℕ) (F : Fits (G b A) lat) (
     -- so the pairs known in the next round are apart too
     next-sound : Sound (suc k)
     unfolding apartBy
-    next-sound u v lu lv p = go (kept-or-found b k i j (omega arith) (omega arith) (p .known-so))
+    next-sound u v lu lv p = by-round (kept-or-found b k i j (omega arith) (omega arith) (p .known-so))
       where
         i : ℕ
         i = instruction v
@@ -69,11 +68,12 @@ module _ (b : Block) (A : Ranges b) (lat : ℕ → ℕ) (F : Fits (G b A) lat) (
         j : ℕ
         j = instruction u
 
-        go : (has (knownAt b k) i j ≡ true) ⊎ (found b k i j ≡ true) → (s u + lat u ≤ start (earliest b) v) ⊎ (s v + lat v ≤ start (earliest b) u)
-        go (inl t) = S u v lu lv (record { one = p .one; other = p .other; known-so = t })
-        go (inr t) =
+        by-round : (has (knownAt b k) i j ≡ true) ⊎ (found b k i j ≡ true)
+            → (s u + lat u ≤ start (earliest b) v) ⊎ (s v + lat v ≤ start (earliest b) u)
+        by-round (inl t) = S u v lu lv (record { u-EX = p .u-EX; v-EX = p .v-EX; known-so = t })
+        by-round (inr t) =
             let c = and-right (has (contending b) i j) (apart b (earliest b) late i j) (found-apart b k i j t) in
-            found-sound u v lu lv (p .one) (p .other) (apart-clear b (earliest b) late i j c)
+            found-sound u v lu lv (p .u-EX) (p .v-EX) (apart-clear b (earliest b) late i j c)
 
   sound : (k : ℕ) → Sound k
   sound zero = λ u v lu lv p. absurd (none-first b (instruction v) (instruction u) (p .known-so))

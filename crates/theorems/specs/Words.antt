@@ -1,13 +1,16 @@
--- The words of the theorems: which blocks and latency lists they speak of, and what it is to be inside a window.
+-- The words of the theorems: which blocks and latency lists they speak of, and what it is to be inside a window, in time, and
+-- later than under the highest latencies.
 use Prim.Native.Nat.{ℕ, _≤_, _<_}
 use mathlib.Core.Path.{_≡_}
-use mathlib.Core.List.{List}
+use mathlib.Core.Bool.{true}
+use mathlib.Core.List.{List, [], _∷_}
 use Rattle.lists.specs.Lists.{tab}
 use Rattle.record.specs.Refusals.{verdict, blockVerdict}
 use Rattle.record.specs.declared.Block.{Block}
-use Rattle.model.specs.Nodes.{entry, lowest, highest, chosen}
-use Rattle.model.specs.Cycles.{start, finish, ready, play, playLength}
+use Rattle.model.specs.Nodes.{nodes, entry, lowest, highest, chosen}
+use Rattle.model.specs.Cycles.{start, started, finish, ready, firstState, playOn, play, playLength}
 use Rattle.model.specs.Rounds.{earliest, R, windows, bound}
+use Rattle.model.specs.Blocks.{blockE}
 use Rattle.play.specs.Refusals.{listTests}
 
 -- a block that tests 4 and 5 accept
@@ -34,6 +37,10 @@ pub record Inside (b : Block) (lat : ℕ → ℕ) (v : ℕ) : Type 0 where
   pub startIn : Within (start (earliest b) v) (start (play b lat) v) (start (windows b .late) v)
   pub finishIn : Within (finish (lowest b) (earliest b) v) (finish lat (play b lat) v) (finish (highest b) (windows b .late) v)
 
+-- "nothing waits past its latest start": after k cycles whatever has a latest start below k has started
+abbrev pub StartsInTime : Block → (ℕ → ℕ) → Type 0
+StartsInTime b lat = (k v : ℕ) → v < nodes b → start (windows b .late) v < k → started (playOn k b lat firstState .starts) v ≡ true
+
 -- "all the highest latencies"
 unfoldable pub longest : Block → List ℕ
 longest b = tab (b .n) (λ i. entry b i .hi)
@@ -48,3 +55,7 @@ pub record Anomaly (b : Block) (l : List ℕ) (end late : ℕ) : Type 0 where
   pub underList : playLength b (chosen b l) ≡ late
   pub bounded : bound b ≡ late
   pub sooner : end < late
+
+-- "playing E with first latency 1 ends at 27, and with 4 at 23", and 27 is its bound
+abbrev pub AnomalyOfE : Type 0
+AnomalyOfE = Anomaly blockE (1 ∷ 4 ∷ 4 ∷ 12 ∷ []) 23 27

@@ -1,11 +1,11 @@
 -- Nets and schedules: nodes with finish and order edges and with units, and what a play of H cycles keeps. Its starts are
--- a function s: s v is the start of v, or H where v has not started. Assumes nothing.
+-- a function s: s v is the start of v, or H where v has not started. No promise and no demand is stated with them, so nobody
+-- needs to believe them. That every play of the model is a schedule of its block's net is in proofs/PlaySchedule.
 use Prim.Native.Nat.{ℕ, _+_, _≤_, _<_}
-use mathlib.Core.Path.{_≡_, refl}
-use mathlib.Core.Bool.{Bool, true, false, not, _&&_}
-use native.Mathlib.Omega.{arith}
-use lib.Dec.{T, leb, ltb, eqb, leb→le, le→leb, ltb→lt, lt→ltb, eqb→eq, eqb-refl}
-use Rattle.schedules.proofs.Counting.{wt, wt-on, count}
+use mathlib.Core.Path.{_≡_}
+use mathlib.Core.Bool.{Bool, not, _&&_}
+use lib.Dec.{T, leb, ltb, eqb}
+use Rattle.schedules.specs.inside.Counts.{valueIf, countBelow}
 
 -- the nodes are those below N. Edges lead up, none that leaves an EX is an order edge, each lowest latency is 1 at least,
 -- and each kind has a unit
@@ -44,16 +44,13 @@ pub record Done (G : Net) (lat s : ℕ → ℕ) (v x : ℕ) : Type 0 where
   pub fin : (u : ℕ) → G .Fin u v → s u + lat u ≤ x
   pub ord : (u : ℕ) → G .Ord u v → s u ≤ x
 
-pub done-mono : (G : Net) (lat s : ℕ → ℕ) (v x y : ℕ) → x ≤ y → Done G lat s v x → Done G lat s v y
-done-mono G lat s v x y l d = record { fin = λ u e. omega (arith, d .fin u e); ord = λ u e. omega (arith, d .ord u e) }
-
 -- the EX nodes of v's kind
 abbrev pub peer : Net → ℕ → ℕ → Bool
 peer G v u = G .ex u && eqb (G .kind u) (G .kind v)
 
 -- those of them that run at t when v has its turn: they started before t, or at t and stand before v
 unfoldable pub busy : Net → (ℕ → ℕ) → (ℕ → ℕ) → ℕ → ℕ → ℕ → Bool
-busy G lat s v t u = peer G v u && (ltb t (s u + lat u) && leb (s u + wt (leb v u) 1) t)
+busy G lat s v t u = peer G v u && (ltb t (s u + lat u) && leb (s u + valueIf (leb v u) 1) t)
 
 -- the same as facts
 pub record Busy (G : Net) (lat s : ℕ → ℕ) (v t u : ℕ) : Type 0 where
@@ -63,44 +60,6 @@ pub record Busy (G : Net) (lat s : ℕ → ℕ) (v t u : ℕ) : Type 0 where
   pub begun : s u ≤ t
   pub tie : v ≤ u → s u < t
 
-pub and-left : (a b : Bool) → T (a && b) → T a
-and-left true b t = tt
-and-left false b t = t
-
-pub and-right : (a b : Bool) → T (a && b) → T b
-and-right true b t = t
-and-right false b t = absurd t
-
-pub and-both : (a b : Bool) → T a → T b → T (a && b)
-and-both true b s t = t
-and-both false b s t = s
-
-tie-le : (u v x t : ℕ) → T (leb (x + wt (leb v u) 1) t) → v ≤ u → x < t
-tie-le u v x t h l = omega (arith, leb→le (x + wt (leb v u) 1) t h, wt-on (leb v u) 1 (le→leb v u l))
-
-pub busy→ : (G : Net) (lat s : ℕ → ℕ) (v t u : ℕ) → T (busy G lat s v t u) → Busy G lat s v t u
-unfolding busy
-busy→ G lat s v t u h =
-    let p = and-left (peer G v u) _ h in
-    let q = and-right (peer G v u) _ h in
-    let r = and-right (ltb t (s u + lat u)) _ q in
-    record {
-      ex = and-left (G .ex u) _ p;
-      same = eqb→eq _ _ (and-right (G .ex u) _ p);
-      runs = ltb→lt _ _ (and-left (ltb t (s u + lat u)) _ q);
-      begun = omega (arith, leb→le (s u + wt (leb v u) 1) t r);
-      tie = tie-le u v (s u) t r;
-    }
-
-pub →busy : (G : Net) (lat s : ℕ → ℕ) (v t u : ℕ) → Busy G lat s v t u → T (busy G lat s v t u)
-unfolding busy
-→busy G lat s v t u b =
-    and-both (peer G v u) _ (and-both (G .ex u) _ (b .ex) (rw (b .same) (eqb-refl (G .kind v)))) (and-both (ltb t (s u + lat u)) _ (lt→ltb _ _ (b .runs)) (le→leb _ _ (go (leb v u) refl)))
-  where
-    go : (c : Bool) → leb v u ≡ c → s u + wt (leb v u) 1 ≤ t
-    go true e = rw e (omega (arith, b .tie (leb→le v u (rw e tt))))
-    go false e = rw e (omega (arith, b .begun))
-
 -- a play of H cycles
 pub record Sched (G : Net) (lat : ℕ → ℕ) (H : ℕ) (s : ℕ → ℕ) : Type 0 where
   pub top : (v : ℕ) → v < G .N → s v ≤ H
@@ -109,6 +68,6 @@ pub record Sched (G : Net) (lat : ℕ → ℕ) (H : ℕ) (s : ℕ → ℕ) : Typ
   -- off EX nothing waits
   pub prompt : (v t : ℕ) → v < G .N → T (not (G .ex v)) → t < s v → Done G lat s v t → ⊥
   -- at EX what waits does so for all units of its kind
-  pub waits : (v t : ℕ) → v < G .N → T (G .ex v) → t < s v → Done G lat s v t → G .units (G .kind v) ≤ count (G .N) (busy G lat s v t)
+  pub waits : (v t : ℕ) → v < G .N → T (G .ex v) → t < s v → Done G lat s v t → G .units (G .kind v) ≤ countBelow (G .N) (busy G lat s v t)
   -- what started had a unit
-  pub room : (v : ℕ) → v < G .N → T (G .ex v) → s v < H → count (G .N) (busy G lat s v (s v)) < G .units (G .kind v)
+  pub room : (v : ℕ) → v < G .N → T (G .ex v) → s v < H → countBelow (G .N) (busy G lat s v (s v)) < G .units (G .kind v)

@@ -1,0 +1,3 @@
+pub mod Counts
+pub mod Nets
+pub mod RoundInequalities
