@@ -1,4 +1,4 @@
--- The lists whose fronts are a block's time lines. Assumes nothing.
+-- The lists whose fronts are a block's earliest and latest starts. Assumes nothing.
 use Prim.Native.Nat.{ℕ, _<_}
 use mathlib.Core.Path.{_≡_, ap, _∙_}
 use mathlib.Core.List.{List, _++_}

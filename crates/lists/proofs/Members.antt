@@ -12,11 +12,11 @@ use Rattle.lists.proofs.Bools.{or-cases, or-first, or-second, and-left,
 pub in-split : {A : Type 0} (x : A) (xs ys : List A) → In x (xs ++ ys) → In x xs ⊎ In x ys
 in-split x [] ys h = inr h
 in-split x (z ∷ xs) ys (inl e) = inl (inl e)
-in-split {A} x (z ∷ xs) ys (inr h) = go (in-split x xs ys h)
+in-split {A} x (z ∷ xs) ys (inr h) = either-side (in-split x xs ys h)
   where
-    go : In x xs ⊎ In x ys → In x (z ∷ xs) ⊎ In x ys
-    go (inl k) = inl (inr k)
-    go (inr k) = inr k
+    either-side : In x xs ⊎ In x ys → In x (z ∷ xs) ⊎ In x ys
+    either-side (inl k) = inl (inr k)
+    either-side (inr k) = inr k
 
 pub in-left : {A : Type 0} (x : A) (xs ys : List A) → In x xs → In x (xs ++ ys)
 in-left x [] ys h = absurd h
@@ -57,11 +57,11 @@ module _ (p : ℕ → Bool) where
   pub any-find : (xs : List ℕ) → any p xs ≡ true → (x : ℕ) × In x xs × (p x ≡ true)
   unfolding any
   any-find [] e = absurd (false≢true e)
-  any-find (x ∷ xs) e = go (or-cases (p x) (any p xs) e) (any-find xs)
+  any-find (x ∷ xs) e = first-or-rest (or-cases (p x) (any p xs) e) (any-find xs)
     where
-      go : (p x ≡ true) ⊎ (any p xs ≡ true) → (any p xs ≡ true → (y : ℕ) × In y xs × (p y ≡ true)) → (y : ℕ) × In y (x ∷ xs) × (p y ≡ true)
-      go (inl h) ih = (x, inl refl, h)
-      go (inr h) ih = let r = ih h in (r .0, inr (r .1), r .2)
+      first-or-rest : (p x ≡ true) ⊎ (any p xs ≡ true) → (any p xs ≡ true → (y : ℕ) × In y xs × (p y ≡ true)) → (y : ℕ) × In y (x ∷ xs) × (p y ≡ true)
+      first-or-rest (inl h) ih = (x, inl refl, h)
+      first-or-rest (inr h) ih = let r = ih h in (r .0, inr (r .1), r .2)
 
   pub any-in : (xs : List ℕ) (x : ℕ) → In x xs → p x ≡ true → any p xs ≡ true
   unfolding any

@@ -45,13 +45,13 @@ module _ (p q r : ℕ → Bool) where
 numbersWhere-in-from : (p : ℕ → Bool) (i n k : ℕ) → In k (numbersWhereFrom p i n) → (i ≤ k) × (k < i + n) × (p k ≡ true)
 unfolding numbersWhereFrom
 numbersWhere-in-from p i zero k h = absurd h
-numbersWhere-in-from p i (suc n) k h = go (p i) refl h (numbersWhere-in-from p (suc i) n k)
+numbersWhere-in-from p i (suc n) k h = by-front (p i) refl h (numbersWhere-in-from p (suc i) n k)
   where
-    go : (t : Bool) → p i ≡ t → In k (pick t (i ∷ numbersWhereFrom p (suc i) n) (numbersWhereFrom p (suc i) n))
+    by-front : (t : Bool) → p i ≡ t → In k (pick t (i ∷ numbersWhereFrom p (suc i) n) (numbersWhereFrom p (suc i) n))
         → (In k (numbersWhereFrom p (suc i) n) → (suc i ≤ k) × (k < suc i + n) × (p k ≡ true)) → (i ≤ k) × (k < i + suc n) × (p k ≡ true)
-    go true e (inl q) ih = (omega arith, omega arith, ap p q ∙ e)
-    go true e (inr q) ih = let r = ih q in (omega (arith, r .0), omega (arith, r .1), r .2)
-    go false e q ih = let r = ih q in (omega (arith, r .0), omega (arith, r .1), r .2)
+    by-front true e (inl q) ih = (omega arith, omega arith, ap p q ∙ e)
+    by-front true e (inr q) ih = let r = ih q in (omega (arith, r .0), omega (arith, r .1), r .2)
+    by-front false e q ih = let r = ih q in (omega (arith, r .0), omega (arith, r .1), r .2)
 
 pub numbersWhere-in : (p : ℕ → Bool) (a b k : ℕ) → In k (numbersWhere a b p) → (a ≤ k) × (k < b) × (p k ≡ true)
 unfolding numbersWhere

@@ -9,7 +9,8 @@ use native.Mathlib.Nat.{add-zero, zero-add, suc-add, add-suc}
 use native.Mathlib.Omega.{arith}
 use lib.Dec.{ltb, eqb}
 use borrow.Author.Tests.{ltb-true, ltb-false, lt-ltb, eqb-true, eq-eqb}
-use Rattle.lists.specs.Lists.{In, pick, numbersWhere, numbersWhereFrom, kept}
+use Rattle.lists.specs.Lists.{In, pick, numbersWhere, numbersWhereFrom}
+use Rattle.lists.specs.inside.Stores.{kept}
 use Rattle.lists.specs.Sums.{any}
 use Rattle.lists.proofs.Bools.{by-test, and-left, and-right, and-both, same-test}
 use Rattle.lists.proofs.Members.{any-find, any-in}

@@ -9,7 +9,8 @@ use native.Mathlib.Nat.{mul-suc}
 use native.Mathlib.Omega.{arith}
 use lib.ListN.{length}
 use Rattle.lists.proofs.Bools.{by-test, or-left, or-right}
-use Rattle.lists.specs.Lists.{In, pick, kept}
+use Rattle.lists.specs.Lists.{In, pick}
+use Rattle.lists.specs.inside.Stores.{kept}
 use Rattle.lists.specs.Sums.{largest, sum, any}
 
 -- ---- the largest and the sum

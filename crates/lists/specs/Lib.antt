@@ -1,3 +1,4 @@
 pub mod Lists
 pub mod Sums
 pub mod Bytes
+pub mod inside

@@ -1,5 +1,5 @@
--- Lists by index: a table, pieces joined, a part put in place, the lowest index of a fault, what is in a list, the numbers
--- at which a test holds, a list built in order.
+-- Lists by index: a table, pieces joined, the first number at which a test holds, what is in a list, the numbers at which a
+-- test holds, a list built in order.
 use Prim.Native.Nat.{ℕ, zero, suc, _+_, _-_}
 use mathlib.Core.Path.{_≡_}
 use mathlib.Core.Logic.{_⊎_}
@@ -26,10 +26,6 @@ tab n f = tabFrom f 0 n
 unfoldable pub joined : {A : Type 0} → ℕ → (ℕ → List A) → List A
 joined zero f = []
 joined (suc n) f = joined n f ++ f n
-
--- the list o with xs in place of its elements from index i on
-abbrev pub put : {A : Type 0} → List A → ℕ → List A → List A
-put o i xs = take i o ++ xs ++ drop (i + length xs) o
 
 -- the least of i, i + 1, .. (n of them) at which p holds; where there is none, i + n
 unfoldable pub leastFrom : (ℕ → Bool) → ℕ → ℕ → ℕ
@@ -62,11 +58,6 @@ numbersWhereFrom p i (suc n) = let rest = numbersWhereFrom p (suc i) n in pick (
 -- the numbers from a on and below b at which p holds
 unfoldable pub numbersWhere : ℕ → ℕ → (ℕ → Bool) → List ℕ
 numbersWhere a b p = numbersWhereFrom p a (b - a)
-
--- those of a list's numbers at which p holds
-unfoldable pub kept : (ℕ → Bool) → List ℕ → List ℕ
-kept p [] = []
-kept p (x ∷ xs) = let rest = kept p xs in pick (p x) (x ∷ rest) rest
 
 -- k elements in order, each worked out from those before it and its own number
 unfoldable pub inOrder : {A : Type 0} → (List A → ℕ → A) → ℕ → List A

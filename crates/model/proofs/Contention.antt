@@ -33,8 +33,8 @@ module _ (b : Block) (A : Ranges b) (u : ℕ) where
       (λ s t v same. any-ext (λ p. eqb p u || getD s p false) (λ p. eqb p u || getD t p false) (edgesInto b v) (λ p i. ap (λ (x : Bool). eqb p u || x) (same p (edges-below b A p v i))))
       (nodes b)
 
-  step : (v : ℕ) → v < nodes b → ((p : ℕ) → p < v → getD (reached b u) p false ≡ true → Path b u p) → getD (reached b u) v false ≡ true → Path b u v
-  step v l ih t =
+  path-if-below : (v : ℕ) → v < nodes b → ((p : ℕ) → p < v → getD (reached b u) p false ≡ true → Path b u p) → getD (reached b u) v false ≡ true → Path b u v
+  path-if-below v l ih t =
       let r = any-find from-u (edgesInto b v) (sym (reached-is v l) ∙ t) in
       by-last-edge (r .0) (r .1) (or-cases (eqb (r .0) u) (getD (reached b u) (r .0) false) (r .2))
     where
@@ -44,7 +44,7 @@ module _ (b : Block) (A : Ranges b) (u : ℕ) where
 
   path-below : (k v : ℕ) → v < k → v < nodes b → getD (reached b u) v false ≡ true → Path b u v
   path-below zero v h l t = absurd (omega arith)
-  path-below (suc k) v h l t = step v l (λ p o. path-below k p (omega arith) (omega arith)) t
+  path-below (suc k) v h l t = path-if-below v l (λ p o. path-below k p (omega arith) (omega arith)) t
 
   -- WHAT IS REACHED HAS A PATH
   pub reached-path : (v : ℕ) → v < nodes b → getD (reached b u) v false ≡ true → Path b u v

@@ -171,7 +171,7 @@ module _ (b : Block) (A : Ranges b) (cap : (i : ℕ) → entry b i .hi ≤ 255) 
   start-most rivals s v ih =
       by-test (isEX v) (λ e. rw e (EX-most rivals s v ih e)) (λ e. rw e (omega (arith, ready-within b A (highest b) s v ih)))
 
-  -- ---- the lines
+  -- ---- earliest and latest times
   earliest-below : (k v : ℕ) → v < k → v < nodes b → finish (lowest b) (earliest b) v ≤ finishLimit v
   unfolding finish
   earliest-below zero v h l = absurd (omega arith)

@@ -37,13 +37,13 @@ pub into-leads : (es : List Edges) (u v : ℕ) → In u (into es v) → Leads es
 unfolding into
 into-leads [] u v h = absurd h
 into-leads (e ∷ es) u v h =
-    go (in-pick u (eqb (e .to) (stage v) && leb (e .far) (instruction v)) (node (e .from) (instruction v - e .far) ∷ into es v) (into es v) h) (into-leads es u v)
+    by-row (in-pick u (eqb (e .to) (stage v) && leb (e .far) (instruction v)) (node (e .from) (instruction v - e .far) ∷ into es v) (into es v) h) (into-leads es u v)
   where
     T : Type 0
     T = ((eqb (e .to) (stage v) && leb (e .far) (instruction v)) ≡ true) × In u (node (e .from) (instruction v - e .far) ∷ into es v)
 
-    go : T ⊎ (((eqb (e .to) (stage v) && leb (e .far) (instruction v)) ≡ false) × In u (into es v)) → (In u (into es v) → Leads es u v) → Leads (e ∷ es) u v
-    go (inl (t, inl q)) ih =
+    by-row : T ⊎ (((eqb (e .to) (stage v) && leb (e .far) (instruction v)) ≡ false) × In u (into es v)) → (In u (into es v) → Leads es u v) → Leads (e ∷ es) u v
+    by-row (inl (t, inl q)) ih =
         record {
           by = e;
           one = inl refl;
@@ -51,8 +51,8 @@ into-leads (e ∷ es) u v h =
           far = leb-true (e .far) (instruction v) (and-right (eqb (e .to) (stage v)) _ t);
           from = q;
         }
-    go (inl (t, inr q)) ih = leads-more e es u v (ih q)
-    go (inr (t, q)) ih = leads-more e es u v (ih q)
+    by-row (inl (t, inr q)) ih = leads-more e es u v (ih q)
+    by-row (inr (t, q)) ih = leads-more e es u v (ih q)
 
 pub leads-into : (es : List Edges) (e : Edges) (v : ℕ) → In e es → e .to ≡ stage v → e .far ≤ instruction v
     → In (node (e .from) (instruction v - e .far)) (into es v)
@@ -61,12 +61,12 @@ leads-into [] e v h to far = absurd h
 leads-into (x ∷ es) e v (inl q) to far =
     subst (λ (y : Edges). In (node (e .from) (instruction v - e .far)) (pick (eqb (y .to) (stage v) && leb (y .far) (instruction v)) (node (y .from) (instruction v - y .far) ∷ into es v) (into es v))) q
     (rw (eq-eqb (e .to) (stage v) to, le-leb (e .far) (instruction v) far) (inl refl))
-leads-into (x ∷ es) e v (inr h) to far = go (eqb (x .to) (stage v) && leb (x .far) (instruction v)) (leads-into es e v h to far)
+leads-into (x ∷ es) e v (inr h) to far = in-row (eqb (x .to) (stage v) && leb (x .far) (instruction v)) (leads-into es e v h to far)
   where
-    go : (t : Bool) → In (node (e .from) (instruction v - e .far)) (into es v)
+    in-row : (t : Bool) → In (node (e .from) (instruction v - e .far)) (into es v)
         → In (node (e .from) (instruction v - e .far)) (pick t (node (x .from) (instruction v - x .far) ∷ into es v) (into es v))
-    go true i = inr i
-    go false i = i
+    in-row true i = inr i
+    in-row false i = i
 
 -- the same from an instruction to the one that is `far` after it
 pub edge-on : (es : List Edges) (g h k i : ℕ) → h < 5 → In (edges g h k) es → In (node g i) (into es (node h (i + k)))
@@ -79,13 +79,13 @@ edge-on es g h k i l m =
 pub writer-in : (b : Block) (r j i : ℕ) → In i (lastWriter b r j) → (i < j) × (entry b i .writes ≡ r)
 unfolding lastWriter
 writer-in b r zero i h = absurd h
-writer-in b r (suc j) i h = go (in-pick i (eqb (entry b j .writes) r) (j ∷ []) (lastWriter b r j) h) (writer-in b r j i)
+writer-in b r (suc j) i h = by-writer (in-pick i (eqb (entry b j .writes) r) (j ∷ []) (lastWriter b r j) h) (writer-in b r j i)
   where
-    go : ((eqb (entry b j .writes) r ≡ true) × In i (j ∷ [])) ⊎ ((eqb (entry b j .writes) r ≡ false) × In i (lastWriter b r j))
+    by-writer : ((eqb (entry b j .writes) r ≡ true) × In i (j ∷ [])) ⊎ ((eqb (entry b j .writes) r ≡ false) × In i (lastWriter b r j))
         → (In i (lastWriter b r j) → (i < j) × (entry b i .writes ≡ r)) → (i < suc j) × (entry b i .writes ≡ r)
-    go (inl (t, inl q)) ih = (omega arith, rw q (eqb-true (entry b j .writes) r t))
-    go (inl (t, inr q)) ih = absurd q
-    go (inr (t, q)) ih = let x = ih q in (omega (arith, x .0), x .1)
+    by-writer (inl (t, inl q)) ih = (omega arith, rw q (eqb-true (entry b j .writes) r t))
+    by-writer (inl (t, inr q)) ih = absurd q
+    by-writer (inr (t, q)) ih = let x = ih q in (omega (arith, x .0), x .1)
 
 picked : {A : Type 0} (x : A) (t : Bool) (xs : List A) → In x (pick t [] xs) → In x xs
 picked x true xs h = absurd h
@@ -98,11 +98,11 @@ source-before b r j i h = writer-in b r _ i (picked i (eqb r 255) _ h) .0
 -- what j reads was written before it
 pub sources-before : (b : Block) (j i : ℕ) → In i (sources b j) → i < j
 unfolding sources
-sources-before b j i h = go (in-split i (source b (entry b j .reads1) j) (source b (entry b j .reads2) j) h)
+sources-before b j i h = by-register (in-split i (source b (entry b j .reads1) j) (source b (entry b j .reads2) j) h)
   where
-    go : In i (source b (entry b j .reads1) j) ⊎ In i (source b (entry b j .reads2) j) → i < j
-    go (inl k) = source-before b (entry b j .reads1) j i k
-    go (inr k) = source-before b (entry b j .reads2) j i k
+    by-register : In i (source b (entry b j .reads1) j) ⊎ In i (source b (entry b j .reads2) j) → i < j
+    by-register (inl k) = source-before b (entry b j .reads1) j i k
+    by-register (inr k) = source-before b (entry b j .reads2) j i k
 
 -- ---- all edges
 
@@ -115,7 +115,7 @@ pub record Sourced (b : Block) (u v : ℕ) : Type 0 where
 
 pub finish-cases : (b : Block) (u v : ℕ) → In u (finishInto b v) → Leads (finishEdges b) u v ⊎ Sourced b u v
 unfolding finishInto
-finish-cases b u v h = go (in-split u (into (finishEdges b) v) (pick (isEX v) (map (node WB) (sources b (instruction v))) []) h)
+finish-cases b u v h = by-sort (in-split u (into (finishEdges b) v) (pick (isEX v) (map (node WB) (sources b (instruction v))) []) h)
   where
     more : ((isEX v ≡ true) × In u (map (node WB) (sources b (instruction v)))) ⊎ ((isEX v ≡ false) × In u []) → Sourced b u v
     more (inl (t, q)) =
@@ -123,9 +123,9 @@ finish-cases b u v h = go (in-split u (into (finishEdges b) v) (pick (isEX v) (m
         record { ex = eqb-true (stage v) EX t; by = x .0; one = x .1; from = x .2 }
     more (inr (t, q)) = absurd q
 
-    go : In u (into (finishEdges b) v) ⊎ In u (pick (isEX v) (map (node WB) (sources b (instruction v))) []) → Leads (finishEdges b) u v ⊎ Sourced b u v
-    go (inl k) = inl (into-leads (finishEdges b) u v k)
-    go (inr k) = inr (more (in-pick u (isEX v) (map (node WB) (sources b (instruction v))) [] k))
+    by-sort : In u (into (finishEdges b) v) ⊎ In u (pick (isEX v) (map (node WB) (sources b (instruction v))) []) → Leads (finishEdges b) u v ⊎ Sourced b u v
+    by-sort (inl k) = inl (into-leads (finishEdges b) u v k)
+    by-sort (inr k) = inr (more (in-pick u (isEX v) (map (node WB) (sources b (instruction v))) [] k))
 
 pub finish-on : (b : Block) (g h k i : ℕ) → h < 5 → In (edges g h k) (finishEdges b) → In (node g i) (finishInto b (node h (i + k)))
 unfolding finishInto
@@ -157,11 +157,11 @@ module _ (b : Block) (A : Ranges b) where
   order-up = omega arith ▸ omega arith ▸ omega arith ▸ tt
 
   pub finish-below : (u v : ℕ) → In u (finishInto b v) → u < v
-  finish-below u v h = go (finish-cases b u v h)
+  finish-below u v h = goes-up (finish-cases b u v h)
     where
-      go : Leads (finishEdges b) u v ⊎ Sourced b u v → u < v
-      go (inl l) = leads-below (finishEdges b) finish-up u v l
-      go (inr s) = omega (arith, s .ex, s .from, sources-before b (instruction v) (s .by) (s .one))
+      goes-up : Leads (finishEdges b) u v ⊎ Sourced b u v → u < v
+      goes-up (inl l) = leads-below (finishEdges b) finish-up u v l
+      goes-up (inr s) = omega (arith, s .ex, s .from, sources-before b (instruction v) (s .by) (s .one))
 
   pub order-below : (u v : ℕ) → In u (orderInto b v) → u < v
   unfolding orderInto
@@ -169,11 +169,11 @@ module _ (b : Block) (A : Ranges b) where
 
   pub edges-below : (u v : ℕ) → In u (edgesInto b v) → u < v
   unfolding edgesInto
-  edges-below u v h = go (in-split u (finishInto b v) (orderInto b v) h)
+  edges-below u v h = edge-up (in-split u (finishInto b v) (orderInto b v) h)
     where
-      go : In u (finishInto b v) ⊎ In u (orderInto b v) → u < v
-      go (inl k) = finish-below u v k
-      go (inr k) = order-below u v k
+      edge-up : In u (finishInto b v) ⊎ In u (orderInto b v) → u < v
+      edge-up (inl k) = finish-below u v k
+      edge-up (inr k) = order-below u v k
 
 -- EVERY EDGE THAT LEAVES AN EX NODE IS A FINISH EDGE
 abbrev OffEX : Edges → Type 0
@@ -189,8 +189,8 @@ order-off-EX b u v h t =
 
 pub EX-leaves-by-finish : (b : Block) (i v : ℕ) → In (node EX i) (edgesInto b v) → In (node EX i) (finishInto b v)
 unfolding edgesInto
-EX-leaves-by-finish b i v h = go (in-split (node EX i) (finishInto b v) (orderInto b v) h)
+EX-leaves-by-finish b i v h = finish-only (in-split (node EX i) (finishInto b v) (orderInto b v) h)
   where
-    go : In (node EX i) (finishInto b v) ⊎ In (node EX i) (orderInto b v) → In (node EX i) (finishInto b v)
-    go (inl k) = k
-    go (inr k) = let s : (5 * i + 2) % 5 ≡ 2 = omega arith in absurd (order-off-EX b (node EX i) v k (eq-eqb ((5 * i + 2) % 5) 2 s))
+    finish-only : In (node EX i) (finishInto b v) ⊎ In (node EX i) (orderInto b v) → In (node EX i) (finishInto b v)
+    finish-only (inl k) = k
+    finish-only (inr k) = let s : (5 * i + 2) % 5 ≡ 2 = omega arith in absurd (order-off-EX b (node EX i) v k (eq-eqb ((5 * i + 2) % 5) 2 s))

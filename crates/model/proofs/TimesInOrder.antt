@@ -1,4 +1,4 @@
--- A time line that is worked out in node order keeps its rule as a whole: the earliest starts are the earliest ready times,
+-- Times that are worked out in node order keep their rule as a whole: the earliest starts are the earliest ready times,
 -- and a round's latest starts are what the round rules make of its own latest times. Assumes nothing.
 use Prim.Native.Nat.{ℕ, _+_, _<_, max}
 use mathlib.Core.Path.{_≡_, refl, ap, ap₂}

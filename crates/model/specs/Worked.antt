@@ -29,16 +29,16 @@ unfoldable pub boundOne : Block → ℕ
 boundOne b = finish (highest b) (roundOne b) (node CM (b .n - 1))
 
 -- a result that is worked out, and the one that is printed
-pub record Worked : Type 0 where
+pub record WorkedResult : Type 0 where
   pub found : List ℕ
   pub printed : List ℕ
 
 -- both, written short
-abbrev pub gives : List ℕ → List ℕ → Worked
+abbrev pub gives : List ℕ → List ℕ → WorkedResult
 gives x y = record { found = x; printed = y }
 
 -- the eleven
-unfoldable pub worked : List Worked
+unfoldable pub worked : List WorkedResult
 worked =
     -- A "5, 1, 0, 0"
     gives (summary blockA) (5 ∷ 1 ∷ 0 ∷ 0 ∷ [])

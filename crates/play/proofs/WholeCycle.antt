@@ -101,11 +101,11 @@ module _ (b : Block) (h : Shape) (s1 s2 : List ℕ) (U : Unpacked b h s1 s2) (ki
     unfolding finish
     finishes early M S v below has =
         let before : start s v < t = ⊎-elim (λ q. rw (S .same) q) (λ q. absurd (started-not s v has (rw (S .same) q))) (early v (omega (arith, few))) in
-        (omega arith, row (λ v. started s v ≡ true → start s v < t → (start s v + lat v ≤ t) ⊎ (next ≤ start s v + lat v)) (v / 5) one v (omega arith) (omega arith) has before)
+        (omega arith, row (λ v. started s v ≡ true → start s v < t → (start s v + lat v ≤ t) ⊎ (next ≤ start s v + lat v)) (v / 5) stage-before v (omega arith) (omega arith) has before)
       where
-        one : (g : ℕ) → g < 5 → started s (node g (v / 5)) ≡ true → start s (node g (v / 5)) < t
+        stage-before : (g : ℕ) → g < 5 → started s (node g (v / 5)) ≡ true → start s (node g (v / 5)) < t
             → (start s (node g (v / 5)) + lat (node g (v / 5)) ≤ t) ⊎ (next ≤ start s (node g (v / 5)) + lat (node g (v / 5)))
-        one g five has' before' =
+        stage-before g five has' before' =
             by-test (eqb g EX)
             (λ y. let z : g ≡ EX = eqb-true g EX y in rw z (ex (rw z at has')))
             (λ n. inl (omega (arith, chosen-one b l g (v / 5) five (eqb-false g EX n))))

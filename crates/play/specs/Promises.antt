@@ -1,4 +1,4 @@
--- What each operation promises of its outcome.
+-- "How much each promise has to say": what each operation promises of its outcome.
 use mathlib.Core.Path.{_≡_}
 use mathlib.Core.List.{List, _++_}
 use Prim.Native.Nat.{ℕ, _*_}

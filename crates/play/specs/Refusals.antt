@@ -1,4 +1,4 @@
--- Refusals 7, 8 and 9, and the tests that each operation of the play makes.
+-- "Refusal numbers, tested in this order": tests 7, 8 and 9, and those that each operation of the play makes.
 use Prim.Native.Nat.{ℕ, _*_}
 use mathlib.Core.Bool.{Bool, not, _||_}
 use mathlib.Core.List.{List, [], _∷_, _++_}

@@ -9,7 +9,8 @@ use borrow.Author.Tests.{lt-ltb, ltb-false, leb-true, not-false}
 use Rattle.lists.proofs.Least.{least-below}
 use Rattle.lists.proofs.Bools.{or-left, or-right, and-left, and-right}
 use Rattle.record.specs.Rules.{headerTable, lows, highs, outside, kind, register, used, rule, broken}
-use Rattle.record.specs.Layout.{noEntry, headBytes, entryBytes, byteOf, encoded}
+use Rattle.record.specs.Layout.{noEntry, headBytes, entryBytes, encoded}
+use Rattle.record.specs.inside.EntryBytes.{byteOf}
 use Rattle.record.specs.Refusals.{blockVerdict}
 use Rattle.record.specs.declared.Block.{Block}
 use Rattle.record.proofs.RecordBytes.{outside-head, broken-value}

@@ -8,7 +8,8 @@ use lib.ListN.{getD}
 use lib.Dec.{leb, ltb, eqb}
 use borrow.Author.Tests.{eqb-true}
 use Rattle.record.specs.Rules.{kind, register, used, unused, rule, broken, entryByte}
-use Rattle.record.specs.Layout.{entryAt, entryBytes, byteOf}
+use Rattle.record.specs.Layout.{entryAt, entryBytes}
+use Rattle.record.specs.inside.EntryBytes.{byteOf}
 use Rattle.lists.specs.Lists.{pick}
 use Rattle.lists.proofs.Bools.{and-left, and-right}
 

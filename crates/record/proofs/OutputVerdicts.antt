@@ -8,7 +8,8 @@ use native.Mathlib.Omega.{arith}
 use lib.ListN.{length, getD, drop, drop-of-length-le, List·getD-append}
 use lib.Dec.{eqb, ltb}
 use borrow.Author.Tests.{eq-eqb, ne-eqb, eqb-true, ltb-true, ltb-false, not-false}
-use Rattle.lists.specs.Lists.{pick, least, put}
+use Rattle.lists.specs.Lists.{pick, least}
+use Rattle.lists.specs.inside.Stores.{put}
 use Rattle.lists.specs.Bytes.{bytes}
 use Rattle.lists.proofs.Least.{least-from, least-past, least-back, least-ext}
 use Rattle.lists.proofs.JoinedPieces.{put-next, piecesIn, pieces-none, pieces-more, pieces-all}

@@ -11,7 +11,8 @@ use Rattle.lists.proofs.JoinedPieces.{length-joined, getD-joined}
 use Rattle.lists.proofs.Little.{length-bytes, little-ext, little-bytes}
 use Rattle.record.specs.Check.{checkOf}
 use Rattle.record.specs.Rules.{at, outside, rule, broken, entryByte}
-use Rattle.record.specs.Layout.{noEntry, headBytes, entryBytes, byteOf, entriesBytes, body, encoded}
+use Rattle.record.specs.Layout.{noEntry, headBytes, entryBytes, entriesBytes, body, encoded}
+use Rattle.record.specs.inside.EntryBytes.{byteOf}
 use Rattle.record.specs.declared.Block.{Block}
 use Rattle.record.specs.declared.Entry.{Entry}
 use Rattle.record.proofs.CheckByWord.{check-ext, check-lt}

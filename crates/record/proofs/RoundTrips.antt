@@ -17,9 +17,10 @@ use Rattle.lists.proofs.Least.{least-below, least-ext}
 use Rattle.lists.proofs.Little.{little-ext, little-bytes, bytes-little}
 use Rattle.record.specs.Check.{checkOf}
 use Rattle.record.specs.Rules.{headerTable, lows, highs, outside, at, entryByte, rule, broken}
-use Rattle.record.specs.Layout.{noEntry, entryAt, decoded, headBytes, entryBytes, byteOf, body, encoded}
+use Rattle.record.specs.Layout.{noEntry, entryAt, decoded, headBytes, entryBytes, body, encoded}
+use Rattle.record.specs.inside.EntryBytes.{byteOf}
 use Rattle.record.specs.Refusals.{meaning, readVerdict, blockVerdict, writeVerdict, readBlock, written}
-use Rattle.record.specs.Promises.{Reads, Writes, Bytes, Whole}
+use Rattle.record.specs.Promises.{Reads, Writes, ByteString, Whole}
 use Rattle.record.specs.declared.Answer.{Answer}
 use Rattle.record.specs.declared.Answer.the-variants.{Accepted}
 use Rattle.record.specs.declared.Block.{Block}
@@ -82,7 +83,7 @@ module _ (b : Block) where
       (r, rw r (decoded-encoded v))
 
 -- ---- from a record to its block and back
-module _ (s : List ℕ) (u : Bytes s) (f : Fine s) where
+module _ (s : List ℕ) (u : ByteString s) (f : Fine s) where
   inside : (j : ℕ) → j < 28 → outside s j ≡ false
   inside j h =
       by-test (ltb j 4)
@@ -181,7 +182,7 @@ read-written b o p a r v w e x =
     (meaning-one (r .answer) Accepted (x .answer ∙ rw q (t .0)), x .block ∙ rw q (t .1))
 
 -- whatever reading an accepted byte string gives, writing it to 512 bytes accepts and gives the byte string back
-pub written-read : (s o p : List ℕ) (a : Answer) (r : Reading) → Bytes s → Reads s r → r .answer ≡ Accepted → length o ≡ 512 → Writes (r .block) o a p → (a ≡ Accepted) × (p ≡ s)
+pub written-read : (s o p : List ℕ) (a : Answer) (r : Reading) → ByteString s → Reads s r → r .answer ≡ Accepted → length o ≡ 512 → Writes (r .block) o a p → (a ≡ Accepted) × (p ≡ s)
 written-read s o p a r u x e l w =
     let z : readVerdict s ≡ (0, 0) = sym (x .answer) ∙ ap meaning e in
     let q : r .block ≡ decoded s = x .block ∙ read-is s z in

@@ -52,10 +52,6 @@ headBytes b =
 unfoldable pub entryBytes : Entry → List ℕ
 entryBytes e = e .kind ∷ e .lo ∷ e .hi ∷ e .writes ∷ e .reads1 ∷ e .reads2 ∷ 0 ∷ 0 ∷ []
 
--- byte k of an entry's eight
-abbrev pub byteOf : Entry → ℕ → ℕ
-byteOf e k = getD (entryBytes e) k 0
-
 -- "60 entries of 8 bytes"
 unfoldable pub entriesBytes : Block → List ℕ
 entriesBytes b = joined 60 (λ i. entryBytes (getD (b .entries) i noEntry))

@@ -3,3 +3,4 @@ pub mod Check
 pub mod Layout
 pub mod Refusals
 pub mod Promises
+pub mod inside

@@ -1,4 +1,4 @@
--- What each operation promises of its outcome, and what every value of the code is.
+-- "How much each promise has to say": what each operation promises of its outcome, and what every value of the code is.
 use mathlib.Core.Path.{_≡_}
 use mathlib.Core.List.{List}
 use Prim.Native.Nat.{ℕ, _<_}
@@ -19,7 +19,7 @@ pub record Writes (b : Block) (o : List ℕ) (a : Answer) (o' : List ℕ) : Type
   pub output : o' ≡ written b o
 
 -- what every byte string of the code is: no element is above 255
-pub record Bytes (s : List ℕ) : Type 0 where
+pub record ByteString (s : List ℕ) : Type 0 where
   pub byte : (k : ℕ) → getD s k 0 < 256
 
 -- what every block value of the code is: its number has 32 bits, and its entries are 60

@@ -4,7 +4,7 @@ ghost use Prim.Native.Nat.{_≤_};
 ghost use lib.ListN.{length};
 ghost use Rattle.lists.specs.Lists.{least};
 ghost use Rattle.record.specs.Rules.{outside, register, kind, used, unused, rule};
-ghost use Rattle.record.specs.Layout.{byteOf};
+ghost use Rattle.record.specs.inside.EntryBytes.{byteOf};
 use crate::Entry;
 
 // The lowest and the highest allowed value of each header byte.

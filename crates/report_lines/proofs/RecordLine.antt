@@ -3,7 +3,7 @@ use mathlib.Core.Path.{_≡_, refl, sym, ap, _∙_}
 use mathlib.Core.List.{List}
 use Prim.Native.Nat.{ℕ}
 use Rattle.record.specs.Layout.{decoded}
-use Rattle.record.specs.Promises.{Reads, Bytes}
+use Rattle.record.specs.Promises.{Reads, ByteString}
 use Rattle.record.specs.Refusals.{numberOf, placeOf, meaning, readVerdict, readBlock, blockVerdict}
 use Rattle.record.specs.declared.Answer.the-variants.{Accepted, Refused}
 use Rattle.record.specs.declared.Reading.{Reading}
@@ -20,7 +20,7 @@ module _ (s : List ℕ) (r : Reading) (x : Reads s r) where
       let z : readVerdict s ≡ (0, 0) = sym (x .answer) ∙ ap meaning e in
       (z, x .block ∙ rw z refl)
 
-  pub block-accepted : Bytes s → r .answer ≡ Accepted → blockVerdict (r .block) ≡ (0, 0)
+  pub block-accepted : ByteString s → r .answer ≡ Accepted → blockVerdict (r .block) ≡ (0, 0)
   block-accepted u e = let d = read-decoded e in rw (d .1) (block-decoded s u (fine s (d .0)))
 
   pub line-accepted : (index : ℕ) → r .answer ≡ Accepted → line index s ≡ blockLine (r .block)

@@ -4,7 +4,7 @@ ghost use mathlib.Core.List.{[], _∷_};
 ghost use Prim.Native.Nat.{_+_, _*_, _≤_, min};
 ghost use lib.ListN.{length, take};
 ghost use Rattle.io.specs.Counts.{Counts};
-ghost use Rattle.lists.specs.Lists.{put};
+ghost use Rattle.lists.specs.inside.Stores.{put};
 ghost use Rattle.lists.specs.Bytes.{little};
 ghost use Rattle.record.specs.Refusals.{blockVerdict};
 ghost use Rattle.analysis.specs.Result.{result};

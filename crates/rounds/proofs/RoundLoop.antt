@@ -10,7 +10,8 @@ use lib.ListN.{length, getD, take, drop, List·getD-append}
 use lib.Seq.{drop-at}
 use lib.Dec.{ltb}
 use borrow.Author.Tests.{eq-eqb, ne-eqb, ltb-true, ltb-false}
-use Rattle.lists.specs.Lists.{In, numbersWhere, kept, least}
+use Rattle.lists.specs.Lists.{In, numbersWhere, least}
+use Rattle.lists.specs.inside.Stores.{kept}
 use Rattle.lists.specs.Sums.{sum, any}
 use Rattle.lists.proofs.Bools.{by-test}
 use Rattle.lists.proofs.Least.{least-most}
@@ -67,8 +68,8 @@ pub record AfterLast (b : Block) (k : ℕ) (old stored list counts : List ℕ) :
 above : (x : ℕ) → 0 < x → x ≡ suc (x - 1)
 above x h = omega arith
 
-below : (x n : ℕ) → (x ≡ n → ⊥) → x ≤ n → x < n
-below x n f h = by-test (ltb x n) (λ t. ltb-true x n t) (λ t. absurd (f (omega (arith, ltb-false x n t))))
+less-if-other : (x n : ℕ) → (x ≡ n → ⊥) → x ≤ n → x < n
+less-if-other x n f h = by-test (ltb x n) (λ t. ltb-true x n t) (λ t. absurd (f (omega (arith, ltb-false x n t))))
 
 -- a round, its times stored, and the scan
 module _ (b : Block) (k : ℕ) (his early old stored list counts : List ℕ) (G : BeforeRound b k list counts)
@@ -108,7 +109,7 @@ module _ (b : Block) (k : ℕ) (his early old stored list counts : List ℕ) (G 
       → (G' : BeforeRound b (k + 1) list' counts') × (count (b .n) (rival (contending b) (G' .known)) < count (b .n) (rival (contending b) (G .known)))
   unfolding roundsFrom
   rounds-next more list' counts' small from before =
-      let l : at < b .n = below at (b .n) more (omega (arith, first, least-most 0 (b .n) (λ j. any (apartEX his early stored j) (row list counts j)) (omega arith))) in
+      let l : at < b .n = less-if-other at (b .n) more (omega (arith, first, least-most 0 (b .n) (λ j. any (apartEX his early stored j) (row list counts j)) (omega arith))) in
       let some = scan-some b (contending b) (G .known) late his early stored hi soon last (G .even) list counts (G .rows) at first l in
       let fewer = rivals-parted b (contending b) (G .known) (earliest b) late in
       let t = ne-eqb (count (b .n) found) 0 (λ e. omega arith) in
@@ -150,7 +151,7 @@ pub fewer-pairs : (b : Block) (k : ℕ) (list counts list' counts' : List ℕ) (
 fewer-pairs b k list counts list' counts' G N l m l' m' few =
     omega (arith, N .1, rounds-sum b k list counts G l m few, rounds-sum b (k + 1) list' counts' (N .0) l' m' few)
 
--- what the times hold behind its nodes
+-- what the times hold behind the nodes
 pub times-rest : (b : Block) (con known : Pairs) (old stored : List ℕ) → stored ≡ round b con known ++ drop (nodes b) old → drop (nodes b) stored ≡ drop (nodes b) old
 unfolding round
 times-rest b con known old stored e =

@@ -9,7 +9,8 @@ use lib.ListN.{length, getD, take, drop, length-drop}
 use lib.Seq.{length-take-le, getD-take}
 use lib.Dec.{leb, ltb}
 use borrow.Author.Tests.{ltb-true, ltb-false}
-use Rattle.lists.specs.Lists.{numbersWhere, kept, least}
+use Rattle.lists.specs.Lists.{numbersWhere, least}
+use Rattle.lists.specs.inside.Stores.{kept}
 use Rattle.lists.specs.Sums.{sum, any}
 use Rattle.lists.proofs.Bools.{by-test}
 use Rattle.lists.proofs.TableByIndex.{is-tab}

@@ -1,4 +1,4 @@
--- The rules of the two time lines as the code works them out: what they make of each stage, and the latest start of an EX
+-- The rules of earliest and latest times as the code works them out: what they make of each stage, and the latest start of an EX
 -- from rows. Assumes nothing.
 use Prim.Native.Nat.{ℕ, _+_, _*_, _/_, _%_, _≤_, _<_}
 use mathlib.Core.Path.{_≡_, refl, ap, _∙_, sym}

@@ -1,4 +1,4 @@
--- A time line filled instruction by instruction: five starts a turn, each what its rule makes of those before. Assumes nothing.
+-- Times filled in instruction by instruction: five starts a turn, each what its rule makes of those before. Assumes nothing.
 use Prim.Native.Nat.{ℕ, _+_, _*_, _%_, _≤_, _<_}
 use mathlib.Core.Path.{_≡_, ap, _∙_, sym, subst}
 use mathlib.Core.List.{List}
@@ -13,7 +13,7 @@ use Rattle.unpacked.specs.inside.ReadyByStage.{readyIF, readyID, readyWB, ready
 use Rattle.rounds.specs.inside.FiveStarts.{starts, fetched, committed}
 use Rattle.lists.proofs.BufferFill.{Filled, Looks, filled-length, filled-rule, filled-more}
 
--- what a time line's rule makes of the stages, l having the latencies of EX; no start needs more than 16 bits
+-- what a rule of times makes of the stages, l having the latencies of EX; no start needs more than 16 bits
 pub record Stepped (b : Block) (l : ℕ → ℕ) (rule : List ℕ → ℕ → ℕ) : Type 0 where
   pub looks : Looks 0 rule
   pub atIF : (s : List ℕ) (i : ℕ) → rule s (node IF i) ≡ readyIF (b .q) (b .f) s i

@@ -1,4 +1,4 @@
--- One turn of each time line: what the code stores for instruction i keeps the line filled. Assumes nothing.
+-- One turn, for earliest and for latest times: what the code stores for instruction i keeps the times filled. Assumes nothing.
 use Prim.Native.Nat.{ℕ, _+_, _*_, _≤_, _<_}
 use mathlib.Core.Path.{_≡_, sym, _∙_}
 use mathlib.Core.List.{List, map}
@@ -26,13 +26,13 @@ module _ (b : Block) (h : Shape) (s1 s2 : List ℕ) (U : Unpacked b h s1 s2) (l 
   A : Ranges b
   A = ranges b (U .accepted)
 
-  below : i < b .n
-  below = omega (arith, U .shape .n)
+  i-below-n : i < b .n
+  i-below-n = omega (arith, U .shape .n)
 
   room : nodes b ≤ length s₀
   room = omega (arith, A .n .1)
 
-  -- any line: its latencies are l's, and x is what its rule makes of EX(i)
+  -- any times: their latencies are l's, and x is what its rule makes of EX(i)
   turn : (lat : ℕ → ℕ) (rule : List ℕ → ℕ → ℕ) → Stepped b lat rule → (s s₁ s₂ : List ℕ) (x y : ℕ)
       → Filled rule s₀ (5 * i) s → s₁ ≡ fetched (h .q) (h .f) (h .w) (h .d) s i → x ≡ rule s₁ (node EX i) → y ≡ lat i → s₂ ≡ committed (h .c) y x s₁ i
       → Filled rule s₀ (5 * (i + 1)) s₂
@@ -40,16 +40,16 @@ module _ (b : Block) (h : Shape) (s1 s2 : List ℕ) (U : Unpacked b h s1 s2) (l 
       let a' : s₁ ≡ fetched (b .q) (b .f) (b .w) (b .d) s i = rw (← U .shape .q, ← U .shape .f, ← U .shape .w, ← U .shape .d) a in
       let q' : x ≡ rule (fetched (b .q) (b .f) (b .w) (b .d) s i) (node EX i) = rw (← a') q in
       let c' : s₂ ≡ committed (b .c) (lat i) x (fetched (b .q) (b .f) (b .w) (b .d) s i) i = rw (← a', ← m, ← U .shape .c) c in
-      rw c' (row-filled b lat rule S s₀ room i s x below e q')
+      rw c' (row-filled b lat rule S s₀ room i s x i-below-n e q')
 
   sources-ready : (s : List ℕ) → readyEX (getD s1 i 0) (getD s2 i 0) s i ≡ ready b (lowest b) s (node EX i)
-  sources-ready s = rw (U .sources .first i below, U .sources .second i below) (sym (ready-EX b (lowest b) (lowest-one b) s i))
+  sources-ready s = rw (U .sources .first i i-below-n, U .sources .second i i-below-n) (sym (ready-EX b (lowest b) (lowest-one b) s i))
 
   pub earliest-turn : ((j : ℕ) → j < b .n → getD l j 0 ≡ entry b j .lo) → (s s₁ s₂ : List ℕ) (x y : ℕ)
       → Filled (ready b (lowest b)) s₀ (5 * i) s → s₁ ≡ fetched (h .q) (h .f) (h .w) (h .d) s i → x ≡ readyEX (getD s1 i 0) (getD s2 i 0) s₁ i
       → y ≡ getD l i 0 → s₂ ≡ committed (h .c) y x s₁ i → Filled (ready b (lowest b)) s₀ (5 * (i + 1)) s₂
   earliest-turn lo s s₁ s₂ x y e a q m c =
-      turn (λ j. entry b j .lo) (ready b (lowest b)) (earliest-stepped b A (U .shape .most)) s s₁ s₂ x y e a (q ∙ sources-ready s₁) (m ∙ lo i below) c
+      turn (λ j. entry b j .lo) (ready b (lowest b)) (earliest-stepped b A (U .shape .most)) s s₁ s₂ x y e a (q ∙ sources-ready s₁) (m ∙ lo i i-below-n) c
 
   pub round-turn : (con known : Pairs) → Even (b .n) (rival con known) → ((j : ℕ) → j < b .n → getD l j 0 ≡ entry b j .hi)
       → (row : List ℕ) (most : ℕ) → row ≡ numbersWhere 0 i (rival con known i)
@@ -59,6 +59,6 @@ module _ (b : Block) (h : Shape) (s1 s2 : List ℕ) (U : Unpacked b h s1 s2) (l 
       → x ≡ latestOf l s₁ row most r → y ≡ getD l i 0 → s₂ ≡ committed (h .c) y x s₁ i → Filled (latestStart b (rival con known)) s₀ (5 * (i + 1)) s₂
   round-turn con known even hi row most these later s s₁ s₂ r x y e a q z m c =
       let at : x ≡ latestStart b (rival con known) s₁ (node EX i)
-      = z ∙ latest-short b A (rival con known) even l s₁ row most i r below hi these later
-      ∙ rw (q, U .sources .first i below, U .sources .second i below) (sym (latest-at-EX b A (U .shape .most) con known s₁ i)) in
-      turn (λ j. entry b j .hi) (latestStart b (rival con known)) (round-stepped b A (U .shape .most) con known) s s₁ s₂ x y e a at (m ∙ hi i below) c
+      = z ∙ latest-short b A (rival con known) even l s₁ row most i r i-below-n hi these later
+      ∙ rw (q, U .sources .first i i-below-n, U .sources .second i i-below-n) (sym (latest-at-EX b A (U .shape .most) con known s₁ i)) in
+      turn (λ j. entry b j .hi) (latestStart b (rival con known)) (round-stepped b A (U .shape .most) con known) s s₁ s₂ x y e a at (m ∙ hi i i-below-n) c

@@ -1,4 +1,4 @@
-// Time lines: the earliest starts, and one round's latest starts, instruction by instruction.
+// Times: the earliest starts, and one round's latest starts, instruction by instruction.
 ghost use mathlib.Core.Path.{_≡_};
 ghost use mathlib.Core.List.{_++_, map};
 ghost use Prim.Native.Nat.{ℕ, _+_, _-_, _*_, _≤_, _<_, max};

@@ -19,7 +19,7 @@ use Rattle.record.proofs.AcceptedRanges.{Ranges}
 use Rattle.model.specs.Nodes.{EX, nodes, node, stage, instruction, isEX, entry, highest, finishInto, orderInto}
 use Rattle.model.specs.Cycles.{start, finish, units, ready}
 use Rattle.model.proofs.Predecessors.{finish-below, order-below, order-off-EX}
-use Rattle.schedules.specs.inside.Counts.{valueIf, sumBelow, countBelow}
+use Rattle.schedules.specs.inside.SumsBelow.{valueIf, sumBelow, countBelow}
 use Rattle.schedules.specs.inside.Nets.{Net, Done}
 
 -- ---- a test that passes, said in two ways

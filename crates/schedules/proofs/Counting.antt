@@ -7,7 +7,7 @@ use native.Mathlib.Omega.{arith}
 use native.Mathlib.Nat.{le-max-right, max-le}
 use native.Mathlib.Decide.{decLe}
 use lib.Dec.{T}
-use Rattle.schedules.specs.inside.Counts.{valueIf, sumBelow, largestBelow, countBelow}
+use Rattle.schedules.specs.inside.SumsBelow.{valueIf, sumBelow, largestBelow, countBelow}
 
 pub valueIf-on : (b : Bool) (x : ℕ) → T b → valueIf b x ≡ x
 valueIf-on true x t = refl

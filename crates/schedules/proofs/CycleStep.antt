@@ -21,7 +21,7 @@ use Rattle.record.specs.declared.Block.{Block}
 use Rattle.record.proofs.AcceptedRanges.{Ranges}
 use Rattle.model.specs.Nodes.{EX, nodes, node, stage, instruction, isEX, entry}
 use Rattle.model.specs.Cycles.{notStarted, start, started, finish, runs, units, free, turns}
-use Rattle.schedules.specs.inside.Counts.{countBelow}
+use Rattle.schedules.specs.inside.SumsBelow.{countBelow}
 use Rattle.schedules.specs.inside.Nets.{Net, busy, Busy}
 use Rattle.schedules.proofs.NetLaws.{busy→, →busy}
 use Rattle.schedules.proofs.ScheduleStep.{May, Next}

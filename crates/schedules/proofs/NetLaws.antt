@@ -4,7 +4,7 @@ use mathlib.Core.Path.{_≡_, refl}
 use mathlib.Core.Bool.{Bool, true, false, _&&_}
 use native.Mathlib.Omega.{arith}
 use lib.Dec.{T, leb, ltb, leb→le, le→leb, ltb→lt, lt→ltb, eqb→eq, eqb-refl}
-use Rattle.schedules.specs.inside.Counts.{valueIf}
+use Rattle.schedules.specs.inside.SumsBelow.{valueIf}
 use Rattle.schedules.specs.inside.Nets.{Net, Done, peer, busy, Busy}
 use Rattle.schedules.proofs.Counting.{valueIf-on}
 

@@ -14,7 +14,7 @@ use Rattle.record.proofs.AcceptedRanges.{Ranges, ranges}
 use Rattle.model.specs.Nodes.{nodes, instruction, isEX, entry, highest}
 use Rattle.model.specs.Cycles.{State, start, finish, firstState, playOn, play}
 use Rattle.model.proofs.Limits.{readyLimit, finishLimit, limits-grow, late, room, end-limit, highest-most, most-255}
-use Rattle.schedules.specs.inside.Counts.{valueIf}
+use Rattle.schedules.specs.inside.SumsBelow.{valueIf}
 use Rattle.schedules.specs.inside.Nets.{Net, Fits, Sched}
 use Rattle.schedules.specs.inside.RoundInequalities.{earlier, base, early-last, Round}
 use Rattle.schedules.proofs.Counting.{max-least}

@@ -19,7 +19,7 @@ use Rattle.record.specs.declared.Block.{Block}
 use Rattle.record.proofs.AcceptedRanges.{Ranges}
 use Rattle.model.specs.Nodes.{nodes}
 use Rattle.model.specs.Cycles.{State, notStarted, start, started, turns, cycle, firstState, allStarted, playOn}
-use Rattle.schedules.specs.inside.Counts.{countBelow}
+use Rattle.schedules.specs.inside.SumsBelow.{countBelow}
 use Rattle.schedules.specs.inside.Nets.{Net, Fits, Done, busy, Sched}
 use Rattle.schedules.proofs.Counting.{count-mono}
 use Rattle.schedules.proofs.NetLaws.{busy→, →busy}

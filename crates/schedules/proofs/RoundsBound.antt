@@ -7,7 +7,7 @@ use native.Mathlib.Omega.{arith}
 use native.Mathlib.Decide.{decLe}
 use native.Mathlib.Nat.{le-div-iff-mul-le}
 use lib.Dec.{T, ltb, eqb, not-T, ltb→lt, lt→ltb, eqb→eq}
-use Rattle.schedules.specs.inside.Counts.{valueIf, sumBelow, countBelow}
+use Rattle.schedules.specs.inside.SumsBelow.{valueIf, sumBelow, countBelow}
 use Rattle.schedules.specs.inside.Nets.{Net, Fits, Way, by-fin, by-ord, then-fin, then-ord, Done, busy, Busy, Sched}
 use Rattle.schedules.specs.inside.RoundInequalities.{Early, Separates, earlier, base, early-sum, early-last, other, Round, Bounded}
 use Rattle.schedules.proofs.Counting.{valueIf-on, valueIf-mono, sum-le, count-mono, count-find, max-ge, area}

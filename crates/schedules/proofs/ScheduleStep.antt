@@ -11,7 +11,7 @@ use mathlib.Core.Logic.{_⊎_, ⊎-elim}
 use native.Mathlib.Omega.{arith}
 use native.Mathlib.Decide.{decLe, decLt}
 use lib.Dec.{T, T-not}
-use Rattle.schedules.specs.inside.Counts.{countBelow}
+use Rattle.schedules.specs.inside.SumsBelow.{countBelow}
 use Rattle.schedules.specs.inside.Nets.{Net, Fits, Done, busy, Sched}
 use Rattle.schedules.proofs.Counting.{count-mono}
 use Rattle.schedules.proofs.NetLaws.{done-mono, busy→, →busy}

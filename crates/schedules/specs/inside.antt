@@ -1,3 +1,3 @@
-pub mod Counts
+pub mod SumsBelow
 pub mod Nets
 pub mod RoundInequalities

@@ -28,7 +28,7 @@ use Rattle.model.proofs.PairSets.{count-ext, count-zero}
 use Rattle.model.proofs.RoundsEnd.{windows-settled}
 use Rattle.model.proofs.Latencies.{lowest-some}
 use Rattle.model.proofs.RoundRules.{Clear, apart-clear, clear-apart}
-use Rattle.schedules.specs.inside.Counts.{valueIf}
+use Rattle.schedules.specs.inside.SumsBelow.{valueIf}
 use Rattle.schedules.proofs.BlockNet.{ready-done, done-ready, sum-more}
 use Rattle.theorems.specs.RoundByRound.{knownAt, lateAt, apartBy, apartAt}
 use Rattle.theorems.proofs.KnownPairs.{found, none-first, found-apart, apart-found, kept-or-found, kept, found-known, last-round}

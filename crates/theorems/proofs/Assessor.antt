@@ -7,7 +7,7 @@ use lib.ListN.{getD}
 use Rattle.lists.specs.Bytes.{little}
 use Rattle.record.specs.Layout.{decoded}
 use Rattle.record.specs.Refusals.{readVerdict, readBlock}
-use Rattle.record.specs.Promises.{Reads, Bytes, Whole}
+use Rattle.record.specs.Promises.{Reads, ByteString, Whole}
 use Rattle.record.specs.declared.Answer.{Answer}
 use Rattle.record.specs.declared.Answer.the-variants.{Accepted}
 use Rattle.record.specs.declared.Block.{Block}
@@ -35,7 +35,7 @@ origin-kept b o o' a w x e =
     rw (analysed-result b o o' a x e) (origin-byte b, c .0, c .1, number-bytes b w)
 
 -- from record to record: byte 5 is byte 10 of the block record, bytes 8 to 11 are its bytes 12 to 15
-pub origin-copied : (s o o' : List ℕ) (r : Reading) (a : Answer) → Bytes s → Reads s r → r .answer ≡ Accepted → Analyses (r .block) o a o' → a ≡ Accepted
+pub origin-copied : (s o o' : List ℕ) (r : Reading) (a : Answer) → ByteString s → Reads s r → r .answer ≡ Accepted → Analyses (r .block) o a o' → a ≡ Accepted
     → (getD o' 5 0 ≡ getD s 10 0) × ((k : ℕ) → k < 4 → getD o' (8 + k) 0 ≡ getD s (12 + k) 0)
 unfolding readBlock
 origin-copied s o o' r a u y f x e =

@@ -7,7 +7,7 @@ use mathlib.Core.List.{List}
 use native.Mathlib.Omega.{arith}
 use lib.ListN.{getD}
 use Rattle.lists.specs.Bytes.{little}
-use Rattle.record.specs.Promises.{Reads, Bytes}
+use Rattle.record.specs.Promises.{Reads, ByteString}
 use Rattle.record.specs.declared.Answer.{Answer}
 use Rattle.record.specs.declared.Answer.the-variants.{Accepted}
 use Rattle.record.specs.declared.Block.{Block}
@@ -81,7 +81,7 @@ module _ (b : Block) (bytes : ByteLatencies b) (l : List ℕ) where
   outcomes-bound = given-bound b bytes l
 
 -- a block value that is read has bytes for its latencies, so these theorems are of every block that comes from a record
-pub read-latencies : (s : List ℕ) (r : Reading) → Bytes s → Reads s r → ByteLatencies (r .block)
+pub read-latencies : (s : List ℕ) (r : Reading) → ByteString s → Reads s r → ByteLatencies (r .block)
 read-latencies s r u x = rw (x .block) (read-bytes s u)
 
 -- ---- "Prove: rounds are at most contending pairs plus 1; no time exceeds 513 × n, so 30,780."

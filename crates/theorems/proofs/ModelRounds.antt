@@ -31,7 +31,7 @@ use Rattle.model.proofs.TimesInOrder.{earliest-is, round-is}
 use Rattle.model.proofs.Contention.{contend-or-path}
 use Rattle.model.proofs.Latencies.{lowest-some}
 use Rattle.model.proofs.RoundRules.{highs, ends, held, EX-short}
-use Rattle.schedules.specs.inside.Counts.{valueIf}
+use Rattle.schedules.specs.inside.SumsBelow.{valueIf}
 use Rattle.schedules.specs.inside.Nets.{Net, Way, by-fin, by-ord, then-fin, then-ord, Done}
 use Rattle.schedules.specs.inside.RoundInequalities.{Early, earlier, base, early-sum, early-last, other, Round}
 use Rattle.schedules.proofs.Counting.{sum-front, max-least}

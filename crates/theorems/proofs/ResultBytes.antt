@@ -16,7 +16,7 @@ use Rattle.lists.proofs.TableByIndex.{length-tab, getD-tab}
 use Rattle.lists.proofs.Little.{little-ext, little-bytes, bytes-little}
 use Rattle.record.specs.Layout.{noEntry, noBlock, entryAt, decoded}
 use Rattle.record.specs.Refusals.{accepts, readVerdict, readBlock}
-use Rattle.record.specs.Promises.{Bytes, Whole}
+use Rattle.record.specs.Promises.{ByteString, Whole}
 use Rattle.record.specs.declared.Answer.{Answer}
 use Rattle.record.specs.declared.Answer.the-variants.{Accepted}
 use Rattle.record.specs.declared.Block.{Block}
@@ -59,7 +59,7 @@ unfolding analysed
 analysed-result b o o' a x e = x .output ∙ (rw (accepted-so a e (x .answer)) refl)
 
 -- ---- from a block record
-module _ (s : List ℕ) (u : Bytes s) where
+module _ (s : List ℕ) (u : ByteString s) where
   pub copied-number : (k : ℕ) → k < 4 → getD (result (decoded s)) (8 + k) 0 ≡ getD s (12 + k) 0
   unfolding decoded
   copied-number k h = number-byte (decoded s) k h ∙ bytes-little 4 s 12 (u .byte) k h

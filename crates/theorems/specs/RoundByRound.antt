@@ -1,4 +1,4 @@
--- "Rounds are repeated": the rounds one by one, counted from 0.
+-- "Round rules", "Rounds are repeated": the rounds one by one, counted from 0.
 use Prim.Native.Nat.{ℕ, zero, suc}
 use mathlib.Core.Bool.{Bool, _&&_, _||_}
 use mathlib.Core.List.{List, []}

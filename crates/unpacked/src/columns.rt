@@ -2,7 +2,7 @@
 ghost use mathlib.Core.Path.{_≡_};
 ghost use Prim.Native.Nat.{ℕ, _≤_, _<_};
 ghost use lib.ListN.{getD};
-ghost use Rattle.record.specs.Layout.{byteOf};
+ghost use Rattle.record.specs.inside.EntryBytes.{byteOf};
 ghost use Rattle.model.specs.Nodes.{entry, source};
 ghost use Rattle.unpacked.specs.inside.UnpackedBlock.{Shapes, code};
 use crate::Shape;

@@ -1,5 +1,5 @@
 -- What the code works out for one node in one cycle, written out stage by stage. That this is the model's cycle is in
--- proofs/Begins, proofs/Turned and proofs/Midway.
+-- proofs/NodeTest, proofs/CycleByNode and proofs/HalfCycle.
 use Prim.Native.Nat.{ℕ, _+_, max}
 use mathlib.Core.Path.{_≡_}
 use mathlib.Core.Bool.{Bool, not, _&&_, _||_}

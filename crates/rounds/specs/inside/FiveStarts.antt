@@ -1,4 +1,5 @@
--- The steps of a time line as the code takes them: the five starts of instruction i, one after the other, each a 16-bit number.
+-- Times as the code fills them in: the five starts of instruction i, one after the other, each a 16-bit number. That these are
+-- the rules' is in proofs/StageTimes.
 use Prim.Native.Nat.{ℕ, _+_, _-_, _%_, min, max}
 use mathlib.Core.List.{List, map}
 use lib.ListN.{getD, set}

@@ -5,7 +5,7 @@ use Prim.Native.Nat.{ℕ, _+_, _≤_, _<_}
 use mathlib.Core.Path.{_≡_}
 use mathlib.Core.Bool.{Bool, not, _&&_}
 use lib.Dec.{T, leb, ltb, eqb}
-use Rattle.schedules.specs.inside.Counts.{valueIf, countBelow}
+use Rattle.schedules.specs.inside.SumsBelow.{valueIf, countBelow}
 
 -- the nodes are those below N. Edges lead up, none that leaves an EX is an order edge, each lowest latency is 1 at least,
 -- and each kind has a unit

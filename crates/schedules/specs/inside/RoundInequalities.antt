@@ -6,7 +6,7 @@ use mathlib.Core.Path.{_≡_}
 use mathlib.Core.Bool.{Bool, not, _&&_}
 use mathlib.Core.Logic.{_⊎_}
 use lib.Dec.{T, ltb, eqb}
-use Rattle.schedules.specs.inside.Counts.{valueIf, sumBelow, largestBelow, countBelow}
+use Rattle.schedules.specs.inside.SumsBelow.{valueIf, sumBelow, largestBelow, countBelow}
 use Rattle.schedules.specs.inside.Nets.{Net, Way, Done}
 
 -- earliest ready times: the least that the edges allow

@@ -1,5 +1,5 @@
 -- The ready time of each stage of instruction i, written out edge by edge: s has the starts of the nodes in node order, and
--- every node but an EX takes one cycle. That they are the model's `ready` is in proofs/Ready.
+-- every node but an EX takes one cycle. That they are the model's `ready` is in proofs/ReadyTimes.
 use Prim.Native.Nat.{ℕ, _+_, _-_, max}
 use mathlib.Core.List.{List}
 use lib.Dec.{leb, ltb}

@@ -2,7 +2,8 @@
 use mathlib.Core.Path.{_≡_}
 use lib.ListN.{getD}
 use Rattle.record.specs.Rules.{rule}
-use Rattle.record.specs.Layout.{entryAt, byteOf}
+use Rattle.record.specs.Layout.{entryAt}
+use Rattle.record.specs.inside.EntryBytes.{byteOf}
 use Rattle.record.proofs.EntryRules.{broken-is}
 use borrow.Author.Needs.{needs}
 use Rattle.record.proofs.reader.bytes_ok.Statement.{statement}

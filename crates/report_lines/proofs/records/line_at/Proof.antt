@@ -1,7 +1,7 @@
 -- `report_lines::records::line_at` meets its contract. Assumes nothing.
 use mathlib.Core.Path.{_≡_, refl, _∙_}
 use native.Mathlib.Omega.{arith}
-use Rattle.record.specs.Promises.{Bytes}
+use Rattle.record.specs.Promises.{ByteString}
 use Rattle.theorems.proofs.Demand.{read-latencies}
 use Rattle.report_lines.specs.Report.{line, blockLine, refusalLine}
 use Rattle.report_lines.proofs.RecordLine.{block-accepted, line-accepted, line-refused}
@@ -13,7 +13,7 @@ block-into-requires : tie.Need-block-into-requires
 block-into-requires c κs =
     let r = c .before .before .before .before .read in
     let a = c .before .before .before .before .before .before .before .args in
-    let u : Bytes (a .s .now) = record { byte = λ k. search (needs, c .before .before .before .before .before .before .shared-slice-known .given k) } in
+    let u : ByteString (a .s .now) = record { byte = λ k. search (needs, c .before .before .before .before .before .before .shared-slice-known .given k) } in
     (block-accepted (a .s .now) (r .result) (r .ensures) u (c .before .enum-told .given .1), read-latencies (a .s .now) (r .result) u (r .ensures), search needs)
 
 returns : tie.Need-returns

@@ -1,4 +1,4 @@
--- `rounds::times::earliest_into` meets its contract: after i instructions the line is filled to their nodes. Assumes nothing.
+-- `rounds::times::earliest_into` meets its contract: after i instructions the times are filled to their nodes. Assumes nothing.
 use mathlib.Core.Path.{_≡_, refl, _∙_}
 use Prim.Native.Nat.{ℕ, _≤_, _<_, _-_, _*_}
 use native.Mathlib.Omega.{arith}

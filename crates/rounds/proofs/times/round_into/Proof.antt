@@ -1,4 +1,4 @@
--- `rounds::times::round_into` meets its contract: after i instructions the line is filled to their nodes. Assumes nothing.
+-- `rounds::times::round_into` meets its contract: after i instructions the times are filled to their nodes. Assumes nothing.
 use mathlib.Core.Path.{_≡_, refl, ap, _∙_}
 use mathlib.Core.List.{map}
 use Prim.Native.Nat.{ℕ, _≤_, _<_, _-_, _*_, _+_}

@@ -4,7 +4,7 @@ use Prim.Native.Nat.{ℕ, _≤_, _<_, _-_}
 use native.Mathlib.Omega.{arith}
 use lib.ListN.{length, getD, length-set}
 use borrow.Author.Count.{below-none}
-use Rattle.record.specs.Layout.{byteOf}
+use Rattle.record.specs.inside.EntryBytes.{byteOf}
 use Rattle.model.specs.Nodes.{entry}
 use Rattle.lists.proofs.TableByIndex.{store-more}
 use borrow.Author.Needs.{needs}
