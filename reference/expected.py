@@ -1,6 +1,6 @@
 #!/usr/bin/env python3
-"""expected.py NAME: prints what the program NAME (vectors, states, trial or report) must write, from the model's rules.
-`python3 tests/expected.py NAME | diff - crates/NAME/stdout` prints nothing. Counts of agreement are taken for granted: that
+"""expected.py NAME: prints what the program NAME (trial_record, trial_play, trial_analysis or report) must write, from the model's rules.
+`python3 reference/expected.py NAME | diff - crates/NAME/stdout` prints nothing. Counts of agreement are taken for granted: that
 the program agrees with its second opinion is asked of the program."""
 import struct
 import sys
@@ -133,7 +133,7 @@ def windows():
     print('crowded blocks 300\n  sum over result records and window tables %d' % total)
 
 
-def doors():
+def refusals():
     def analyse(b, n, given=None):
         v = given or ((0, 0) if n == 512 else (6, 0))
         print('analyse to %d bytes%s %s' % (n, said(v), 'written' if v == (0, 0) else 'untouched'))
@@ -282,8 +282,8 @@ def reported(data):
             print(b['number'], ' CP'[b['head'][6]], b['head'][0], late[-1][2], rounds, pairs, apart)
 
 
-PARTS = dict(vectors=(vectors, changes, trips), states=(plays, faults, states),
-             trial=(blocks, windows, doors, beside),
+PARTS = dict(trial_record=(vectors, changes, trips), trial_play=(plays, faults, states),
+             trial_analysis=(blocks, windows, refusals, beside),
              report=(lambda: reported(archive()),))
 
 if len(sys.argv) != 2 or sys.argv[1] not in PARTS:
