@@ -1,4 +1,4 @@
-// Reports on the block records on standard input: a header, then a line for each record. The lines come from `lines`, for
+// Reports on the block records on standard input: a header, then a line for each record. The lines come from `report_lines`, for
 // a piece of 65,536 bytes at a time; here they are read and written.
 use libc::STDERR_FILENO;
 use libc::STDIN_FILENO;
