@@ -7,19 +7,19 @@ import sys
 
 from archive import archive
 from blocks import (E, block, chain, crowded, drawn, drawn_latencies, following, highest, lowest, of_block_i, spoiled, worked)
-from model import (NOTHING, analysed, before, cycled, decoded, encoded, judged, played, result, sealed, table, verdict,
+from model import (FIRST_STATE, analysed, before, cycled, decoded, encoded, judged, played, result, sealed, table, verdict,
                    walked)
 
 
 # ---- the lines
-def summed(total, numbers):
+def summed(so_far, numbers):
     for x in numbers:
-        total = (total * 65599 + x) % 4294967291
-    return total
+        so_far = (so_far * 65599 + x) % 4294967291
+    return so_far
 
 
-def sum_state(total, state):
-    return summed(total, [state[0]] + [65535 if x is None else x for x in state[1]])
+def sum_state(so_far, state):
+    return summed(so_far, [state[0]] + [65535 if x is None else x for x in state[1]])
 
 
 def filled(numbers, room):
@@ -125,12 +125,12 @@ def windows():
     for n in range(1, 61):
         print('n %d%s' % (n, numbers(crowded(n, x))))
         x = following(x)
-    x, total = 4, 0
+    x, so_far = 4, 0
     for k in range(300):
         b = crowded(1 + k % 60, x)
-        total = summed(total, result(b) + filled(table(b), 1800))
+        so_far = summed(so_far, result(b) + filled(table(b), 1800))
         x = following(x)
-    print('crowded blocks 300\n  sum over result records and window tables %d' % total)
+    print('crowded blocks 300\n  sum over result records and window tables %d' % so_far)
 
 
 def refusals():
@@ -204,7 +204,7 @@ def faults():
             lat[i] = x
         return lat
 
-    def line(name, b=seven(), lat=changed(), room=105, state=NOTHING):
+    def line(name, b=seven(), lat=changed(), room=105, state=FIRST_STATE):
         v, w = judged(b, lat), judged(b, lat, room)
         length = '  length%s of %d' % (said(v), played(b, lat)[-1] if v == (0, 0) else 0)
         left = ' sum %d' % summed(0, filled(played(b, lat), 1000)) if w == (0, 0) else ' untouched'
@@ -245,7 +245,7 @@ def states():
             (10, 299, 10)):
         alone(crowded(7, 10), *given)
     alone(crowded(60, 11), 10, 299, 3)
-    x, total = 12, 0
+    x, so_far = 12, 0
     for k in range(300):
         n, last, starts = 1 + k % 20, drawn(x) % 31, [None] * 300
         y = x
@@ -255,9 +255,9 @@ def states():
             y = chain(y, 2)[-1]
         b = crowded(n, x)
         for state in walked(b, drawn_latencies(b, following(x)), (1 + last, starts), 40):
-            total = sum_state(total, state)
+            so_far = sum_state(so_far, state)
         x = following(x)
-    print('walks from made states 300\n  sum over the states %d' % total)
+    print('walks from made states 300\n  sum over the states %d' % so_far)
 
 
 def beside():

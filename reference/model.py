@@ -1,7 +1,8 @@
 """The rules as a model that shares no code with the bench: records, analysis, play."""
 import struct
 
-RANGES = [(66, 66), (76, 76), (75, 75), (49, 49), (1, 60), (1, 16), (1, 32), (1, 4), (1, 4), (1, 4), (1, 2), (0, 0)]
+RANGES = [(x, x) for x in b'BLK1']
+RANGES += [(1, 60), (1, 16), (1, 32), (1, 4), (1, 4), (1, 4), (1, 2), (0, 0)]
 RANGES += [(0, 255)] * 4 + [(0, 0)] * 12
 
 
@@ -81,17 +82,17 @@ def edges(b):
     return finish, order
 
 
-def reached(n, links):
+def reached(n, into):
     """For each node those that a path leads to: edges lead up, so the last nodes come first."""
-    after = [{w for u, w in links if u == v} for v in range(5 * n)]
+    after = [{w for u, w in into if u == v} for v in range(5 * n)]
     for v in reversed(range(5 * n)):
         for w in list(after[v]):
             after[v] |= after[w]
     return after
 
 
-def contending(b, links):
-    n, kinds, after = b['head'][0], [e[0] for e in b['entries']], reached(b['head'][0], links)
+def contending(b, into):
+    n, kinds, after = b['head'][0], [e[0] for e in b['entries']], reached(b['head'][0], into)
     return {(i, j) for j in range(n) for i in range(j)
             if kinds[i] == kinds[j] and 5 * j + EX not in after[5 * i + EX] and 5 * i + EX not in after[5 * j + EX]}
 
@@ -156,17 +157,17 @@ def table(b):
 # ---- the play: a state is a cycle number and the starts of 300 nodes, None where one has not started
 def before(b):
     """For each node those that its finish edges come from, and those that its order edges come from."""
-    return [[[u for u, w in links if w == v] for v in range(5 * b['head'][0])] for links in edges(b)]
+    return [[[u for u, w in into if w == v] for v in range(5 * b['head'][0])] for into in edges(b)]
 
 
 def latency_of(lat, v):
     return lat[v // 5] if v % 5 == EX else 1
 
 
-def cycled(b, lat, links, state):
+def cycled(b, lat, into, state):
     """The next state."""
     t, starts = state[0], list(state[1])
-    n, kinds, (finish, order) = b['head'][0], [e[0] for e in b['entries']], links
+    n, kinds, (finish, order) = b['head'][0], [e[0] for e in b['entries']], into
 
     def started(u):
         return starts[u] is not None
@@ -187,27 +188,27 @@ def cycled(b, lat, links, state):
     return t + 1, starts
 
 
-NOTHING = (0, [None] * 300)
+FIRST_STATE = (0, [None] * 300)
 
 
-def walked(b, lat, state=NOTHING, most=None):
+def walked(b, lat, state=FIRST_STATE, most=None):
     """The states that cycles lead to, until CM of the last instruction has started, or at most so many."""
-    links, states, last = before(b), [], 5 * b['head'][0] - 1
+    into, states, last = before(b), [], 5 * b['head'][0] - 1
     while not states or states[-1][1][last] is None and len(states) != most:
-        state = cycled(b, lat, links, state)
+        state = cycled(b, lat, into, state)
         states.append(state)
     return states
 
 
 def played(b, lat):
     """The play table: cycles from nothing until all have started."""
-    nodes, links, state = 5 * b['head'][0], before(b), NOTHING
+    nodes, into, state = 5 * b['head'][0], before(b), FIRST_STATE
     while None in state[1][:nodes]:
-        state = cycled(b, lat, links, state)
+        state = cycled(b, lat, into, state)
     starts, table = state[1], []
     for v in range(nodes):
-        finishes = [starts[u] + latency_of(lat, u) for u in links[0][v]]
-        ready = max([0] + finishes + [starts[u] for u in links[1][v]])
+        finishes = [starts[u] + latency_of(lat, u) for u in into[0][v]]
+        ready = max([0] + finishes + [starts[u] for u in into[1][v]])
         table += [ready, starts[v], starts[v] + latency_of(lat, v)]
     return table
 

@@ -6,8 +6,7 @@ use native.Mathlib.Omega.{arith}
 use lib.ListN.{length, getD, drop, replicate, length-append}
 use lib.Dec.{ltb}
 use borrow.Author.Tests.{ltb-true}
-use Rattle.lists.specs.Lists.{pick, joined}
-use Rattle.lists.specs.inside.Stores.{put}
+use Rattle.lists.specs.Lists.{pick, joined, put}
 use Rattle.lists.specs.Bytes.{bytes}
 use Rattle.lists.proofs.Bools.{by-test}
 use Rattle.lists.proofs.JoinedPieces.{length-joined, joined-ext}

@@ -7,8 +7,7 @@ use mathlib.Core.List.{List, [], _∷_, _++_}
 use native.Mathlib.Omega.{arith}
 use lib.ListN.{getD, drop}
 use borrow.Author.Tests.{eqb-true}
-use Rattle.lists.specs.Lists.{pick}
-use Rattle.lists.specs.inside.Stores.{put}
+use Rattle.lists.specs.Lists.{pick, put}
 use Rattle.lists.proofs.Bools.{by-test}
 use Rattle.lists.proofs.JoinedPieces.{joined-ext, piecesIn, pieces-none, pieces-more}
 use Rattle.record.specs.declared.Block.{Block}

@@ -7,7 +7,7 @@ use native.Mathlib.Omega.{arith}
 use lib.ListN.{length, getD, take}
 use lib.Seq.{take-length}
 use Rattle.lists.specs.Lists.{pick}
-use Rattle.lists.specs.inside.Stores.{kept}
+use Rattle.lists.specs.inside.Kept.{kept}
 use Rattle.lists.specs.Sums.{largest, sum, any}
 use Rattle.lists.proofs.JoinedPieces.{take-snoc}
 use Rattle.lists.proofs.Sums.{largest-append, sum-append, any-append, kept-append}

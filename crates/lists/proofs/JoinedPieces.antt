@@ -9,8 +9,7 @@ use lib.ListN.{length, getD, take, drop, set, take-append-drop, length-append, L
 use lib.Seq.{getD-append-add, take-at, drop-at, drop-drop, drop-cons, take-suc, set-at, append-snoc, length-take-le}
 use lib.Dec.{ltb}
 use borrow.Author.Tests.{ltb-true, ltb-false}
-use Rattle.lists.specs.Lists.{joined}
-use Rattle.lists.specs.inside.Stores.{put}
+use Rattle.lists.specs.Lists.{joined, put}
 use Rattle.lists.proofs.Bools.{by-test}
 
 module _ {A : Type 0} (w : ℕ) (f : ℕ → List A) (wide : (i : ℕ) → length (f i) ≡ w) where

@@ -1,4 +1,4 @@
--- The lowest index of a fault: where it is, that none is below it, and that it goes by the faults alone; and whether there
+-- The first index of a fault: where it is, that none is below it, and that it goes by the faults alone; and whether there
 -- is one. Assumes nothing.
 use mathlib.Core.Path.{_≡_, refl, sym, ap, _∙_}
 use mathlib.Core.Bool.{Bool, true, false, false≢true}
@@ -76,7 +76,7 @@ module _ (a b : ℕ) (p : ℕ → Bool) where
   unfolding least
   least-from = ge-from p a (b - a)
 
-  -- below the lowest fault there is none
+  -- below the first fault there is none
   pub least-below : (k : ℕ) → a ≤ k → k < least a b p → k < b → p k ≡ false
   unfolding least
   least-below k l h q = below-from p a (b - a) k l h (omega arith)
@@ -85,7 +85,7 @@ module _ (a b : ℕ) (p : ℕ → Bool) where
   unfolding least
   least-ext q u = ext-from p q a (b - a) (λ k x y. u k x (omega arith))
 
-  -- there is a fault at the lowest one
+  -- there is a fault at the first one
   pub least-at : least a b p < b → p (least a b p) ≡ true
   unfolding least
   least-at h = at-from p a (b - a) (omega (arith, ge-from p a (b - a)))

@@ -16,27 +16,27 @@ use Rattle.lists.specs.Sums.{sum}
 -- ---- how many
 
 -- 1 where a test holds, else 0
-abbrev pub one : Bool → ℕ
-one true = 1
-one false = 0
+abbrev pub oneIf : Bool → ℕ
+oneIf true = 1
+oneIf false = 0
 
-one-more : (t : Bool) (i : ℕ) (xs : List ℕ) → length (pick t (i ∷ xs) xs) ≡ one t + length xs
+one-more : (t : Bool) (i : ℕ) (xs : List ℕ) → length (pick t (i ∷ xs) xs) ≡ oneIf t + length xs
 one-more true i xs = omega arith
 one-more false i xs = omega arith
 
-length-from : (p : ℕ → Bool) (i n : ℕ) → length (numbersWhereFrom p i (suc n)) ≡ one (p i) + length (numbersWhereFrom p (suc i) n)
+length-from : (p : ℕ → Bool) (i n : ℕ) → length (numbersWhereFrom p i (suc n)) ≡ oneIf (p i) + length (numbersWhereFrom p (suc i) n)
 unfolding numbersWhereFrom
 length-from p i n = one-more (p i) i (numbersWhereFrom p (suc i) n)
 
 -- p holds where q does and where r does, and these never together
 module _ (p q r : ℕ → Bool) where
-  parted-from : (i n : ℕ) → ((k : ℕ) → i ≤ k → k < i + n → one (p k) ≡ one (q k) + one (r k))
+  parted-from : (i n : ℕ) → ((k : ℕ) → i ≤ k → k < i + n → oneIf (p k) ≡ oneIf (q k) + oneIf (r k))
       → length (numbersWhereFrom p i n) ≡ length (numbersWhereFrom q i n) + length (numbersWhereFrom r i n)
   parted-from i zero h = unfold numbersWhereFrom in refl
   parted-from i (suc n) h =
       omega (arith, length-from p i n, length-from q i n, length-from r i n, h i (omega arith) (omega arith), parted-from (suc i) n (λ k a l. h k (omega arith) (omega arith)))
 
-  pub numbersWhere-parted : (a b : ℕ) → a ≤ b → ((k : ℕ) → a ≤ k → k < b → one (p k) ≡ one (q k) + one (r k))
+  pub numbersWhere-parted : (a b : ℕ) → a ≤ b → ((k : ℕ) → a ≤ k → k < b → oneIf (p k) ≡ oneIf (q k) + oneIf (r k))
       → length (numbersWhere a b p) ≡ length (numbersWhere a b q) + length (numbersWhere a b r)
   unfolding numbersWhere
   numbersWhere-parted a b l h = parted-from a (b - a) (λ k x y. h k x (omega arith))

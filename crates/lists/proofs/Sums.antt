@@ -10,7 +10,7 @@ use native.Mathlib.Omega.{arith}
 use lib.ListN.{length}
 use Rattle.lists.proofs.Bools.{by-test, or-left, or-right}
 use Rattle.lists.specs.Lists.{In, pick}
-use Rattle.lists.specs.inside.Stores.{kept}
+use Rattle.lists.specs.inside.Kept.{kept}
 use Rattle.lists.specs.Sums.{largest, sum, any}
 
 -- ---- the largest and the sum

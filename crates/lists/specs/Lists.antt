@@ -1,4 +1,4 @@
--- Lists by index: a table, pieces joined, the first number at which a test holds, what is in a list, the numbers at which a
+-- Lists by index: a table, pieces joined, a part put in place, the first number at which a test holds, what is in a list, the numbers at which a
 -- test holds, a list built in order.
 use Prim.Native.Nat.{ℕ, zero, suc, _+_, _-_}
 use mathlib.Core.Path.{_≡_}
@@ -26,6 +26,10 @@ tab n f = tabFrom f 0 n
 unfoldable pub joined : {A : Type 0} → ℕ → (ℕ → List A) → List A
 joined zero f = []
 joined (suc n) f = joined n f ++ f n
+
+-- the list o with xs in place of its elements from index i on
+abbrev pub put : {A : Type 0} → List A → ℕ → List A → List A
+put o i xs = take i o ++ xs ++ drop (i + length xs) o
 
 -- the least of i, i + 1, .. (n of them) at which p holds; where there is none, i + n
 unfoldable pub leastFrom : (ℕ → Bool) → ℕ → ℕ → ℕ

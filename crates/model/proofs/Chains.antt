@@ -69,7 +69,7 @@ module _ (b : Block) (i : ℕ) where
   finish-carries =
       (omega arith, λ a h. omega arith)
       ▸ (omega arith, λ a h. inr (inr (omega arith)))
-      ▸ (omega arith, λ a h. plus a h)
+      ▸ (omega arith, λ a h. near-same a h)
       ▸ (omega arith, λ a h. omega (arith, near-up b i a h))
       ▸ (omega arith, λ a h. omega arith)
       ▸ (omega arith, λ a h. omega arith)
@@ -78,8 +78,8 @@ module _ (b : Block) (i : ℕ) where
       ▸ (omega arith, λ a h. omega arith)
       ▸ tt
     where
-      plus : (a : ℕ) → Near b i a → Near b i (a + 0)
-      plus a h = let e : a ≡ a + 0 = omega arith in subst (λ (x : ℕ). Near b i x) e h
+      near-same : (a : ℕ) → Near b i a → Near b i (a + 0)
+      near-same a h = let e : a ≡ a + 0 = omega arith in subst (λ (x : ℕ). Near b i x) e h
 
   order-carries : Every (Carries b i) (orderEdges b)
   unfolding orderEdges
@@ -87,7 +87,7 @@ module _ (b : Block) (i : ℕ) where
 
   leads-carries : (es : List Edges) → Every (Carries b i) es → (u v : ℕ) → Leads es u v → Said b i (stage u) (instruction u) → Said b i (stage v) (instruction v)
   leads-carries es all u v l h =
-      let c = every (Carries b i) es all (l .by) (l .one) in
+      let c = every (Carries b i) es all (l .by) (l .listed) in
       let s : stage u ≡ l .by .from = omega (arith, l .from, c .0) in
       let a : instruction u ≡ instruction v - l .by .far = omega (arith, l .from, c .0) in
       let back : instruction v - l .by .far + l .by .far ≡ instruction v = omega (arith, l .far) in
@@ -97,7 +97,7 @@ module _ (b : Block) (i : ℕ) where
   source-carries u v s h =
       let g : stage u ≡ WB = omega (arith, s .from) in
       let a : instruction u ≡ s .by = omega (arith, s .from) in
-      subst (λ (x : ℕ). Said b i x (instruction v)) (sym (s .ex)) (near-reads b i (s .by) (instruction v) (subst₂ (λ (x y : ℕ). Said b i x y) g a h) (s .one))
+      subst (λ (x : ℕ). Said b i x (instruction v)) (sym (s .ex)) (near-reads b i (s .by) (instruction v) (subst₂ (λ (x y : ℕ). Said b i x y) g a h) (s .listed))
 
   edge-carries : (u v : ℕ) → In u (edgesInto b v) → Said b i (stage u) (instruction u) → Said b i (stage v) (instruction v)
   unfolding edgesInto orderInto
@@ -111,14 +111,14 @@ module _ (b : Block) (i : ℕ) where
       by-edge (inl k) = by-finish (finish-cases b u v k)
       by-edge (inr k) = leads-carries (orderEdges b) order-carries u v (into-leads (orderEdges b) u v k) h
 
-  first : (u : ℕ) → u ≡ node EX i → Said b i (stage u) (instruction u)
-  first u e =
+  EX-said : (u : ℕ) → u ≡ node EX i → Said b i (stage u) (instruction u)
+  EX-said u e =
       let g : EX ≡ u % 5 = omega arith in
       let a : i ≡ u / 5 = omega arith in
       subst₂ (λ (x y : ℕ). Said b i x y) g a (inl refl)
 
   path-carries : (u v : ℕ) → u ≡ node EX i → Path b u v → Said b i (stage v) (instruction v)
-  path-carries u v e (edge h) = edge-carries u v (h .from) (first u e)
+  path-carries u v e (edge h) = edge-carries u v (h .from) (EX-said u e)
   path-carries u v e (on {x = x} p h) = edge-carries x v (h .from) (path-carries u x e p)
 
 -- ---- EX(i) REACHES EX(j) EXACTLY IF j IS W OR MORE AFTER i OR A CHAIN OF REGISTERS LEADS THERE
@@ -253,7 +253,7 @@ module _ (b : Block) (A : Ranges b) (i j : ℕ) (l : i < j) (h : j < b .n) where
   pub contend-near : has (contending b) i j ≡ true → j < i + b .w
   contend-near t =
       by-test (leb (i + b .w) j)
-      (λ f. absurd (contending-contends b A i j (omega arith) h t .no-path (far-path b i j h (leb-true (i + b .w) j f))))
+      (λ f. absurd (contending-contends b A i j t .no-path (far-path b i j h (leb-true (i + b .w) j f))))
       (λ f. leb-false (i + b .w) j f)
 
   none-back : has (paths b) j i ≡ false

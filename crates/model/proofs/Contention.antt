@@ -19,7 +19,7 @@ use Rattle.model.specs.Nodes.{EX, nodes, node, entry}
 use Rattle.model.specs.Paths.{edgesInto, Path, reached, has, pairs, paths, Contends, contend, contending}
 use Rattle.model.specs.Paths.Path.{edge, on}
 use Rattle.model.proofs.Predecessors.{edges-below}
-use Rattle.model.proofs.PairSets.{has-pairs}
+use Rattle.model.proofs.PairSets.{has-pairs, has-below}
 
 module _ (b : Block) (A : Ranges b) (u : ℕ) where
   -- p is u, or a path leads to it
@@ -50,13 +50,13 @@ module _ (b : Block) (A : Ranges b) (u : ℕ) where
   pub reached-path : (v : ℕ) → v < nodes b → getD (reached b u) v false ≡ true → Path b u v
   reached-path v l t = path-below (suc v) v (omega arith) l t
 
-  hit : (p v : ℕ) → v < nodes b → In p (edgesInto b v) → from-u p ≡ true → getD (reached b u) v false ≡ true
-  hit p v l i h = reached-is v l ∙ any-in from-u (edgesInto b v) p i h
+  reached-by-edge : (p v : ℕ) → v < nodes b → In p (edgesInto b v) → from-u p ≡ true → getD (reached b u) v false ≡ true
+  reached-by-edge p v l i h = reached-is v l ∙ any-in from-u (edgesInto b v) p i h
 
 -- AND WHAT HAS A PATH IS REACHED
 pub path-reached : (b : Block) (A : Ranges b) (u v : ℕ) → Path b u v → getD (reached b u) v false ≡ true
-path-reached b A u v (edge i) = hit b A u u v (i .there) (i .from) (or-first (eqb u u) _ (eq-eqb u u refl))
-path-reached b A u v (on {x = x} p i) = hit b A u x v (i .there) (i .from) (or-second (eqb x u) _ (path-reached b A u x p))
+path-reached b A u v (edge i) = reached-by-edge b A u u v (i .there) (i .from) (or-first (eqb u u) _ (eq-eqb u u refl))
+path-reached b A u v (on {x = x} p i) = reached-by-edge b A u x v (i .there) (i .from) (or-second (eqb x u) _ (path-reached b A u x p))
 
 -- and leads to a node of the block
 pub path-there : (b : Block) (u v : ℕ) → Path b u v → v < nodes b
@@ -100,15 +100,23 @@ contending-even b i j hi hj =
     ∙ rw (eqb-even i j, eqb-even (entry b i .kind) (entry b j .kind)) (and-swap (not (eqb j i) && eqb (entry b j .kind) (entry b i .kind)) (not (has (paths b) i j)) (not (has (paths b) j i)))
     ∙ sym (contending-at b j i hj hi)
 
-module _ (b : Block) (A : Ranges b) (i j : ℕ) (hi : i < b .n) (hj : j < b .n) where
-  -- THE TABLE HAS EXACTLY THE PAIRS THAT CONTEND
+-- THE TABLE HAS EXACTLY THE PAIRS THAT CONTEND
+module _ (b : Block) (A : Ranges b) (i j : ℕ) where
+  contending-below : has (contending b) i j ≡ true → (i < b .n) × (j < b .n)
+  unfolding contending
+  contending-below = has-below (b .n) (contend b (paths b)) i j
+
   pub contending-contends : has (contending b) i j ≡ true → Contends b i j
   unfolding contend
   contending-contends t =
+      let hi : i < b .n = contending-below t .0 in
+      let hj : j < b .n = contending-below t .1 in
       let k = sym (contending-at b i j hi hj) ∙ t in
       let s : (not (eqb i j) && eqb (entry b i .kind) (entry b j .kind) && not (has (paths b) i j)) ≡ true = and-left _ (not (has (paths b) j i)) k in
       let r : (not (eqb i j) && eqb (entry b i .kind) (entry b j .kind)) ≡ true = and-left _ (not (has (paths b) i j)) s in
       record {
+        first = hi;
+        second = hj;
         two = λ e. false≢true (sym (ap not (eq-eqb i j e)) ∙ and-left (not (eqb i j)) _ r);
         kinds = eqb-true (entry b i .kind) (entry b j .kind) (and-right (not (eqb i j)) _ r);
         no-path = λ p. false≢true (sym (ap not (path-paths b A i j hi hj p)) ∙ and-right (not (eqb i j) && eqb (entry b i .kind) (entry b j .kind)) _ s);
@@ -121,6 +129,8 @@ module _ (b : Block) (A : Ranges b) (i j : ℕ) (hi : i < b .n) (hj : j < b .n) 
   pub contends-contending : Contends b i j → has (contending b) i j ≡ true
   unfolding contend
   contends-contending c =
+      let hi : i < b .n = c .first in
+      let hj : j < b .n = c .second in
       contending-at b i j hi hj
       ∙ and-both _ (not (has (paths b) j i))
       (and-both _ (not (has (paths b) i j))
@@ -128,6 +138,7 @@ module _ (b : Block) (A : Ranges b) (i j : ℕ) (hi : i < b .n) (hj : j < b .n) 
       (unmarked i j hi hj (c .no-path)))
       (unmarked j i hj hi (c .no-path-back))
 
+module _ (b : Block) (A : Ranges b) (i j : ℕ) (hi : i < b .n) (hj : j < b .n) where
   -- SO TWO EX OF ONE KIND CONTEND, OR A PATH LEADS FROM ONE TO THE OTHER
   pub contend-or-path : (i ≡ j → ⊥) → entry b i .kind ≡ entry b j .kind → (has (contending b) i j ≡ true) ⊎ (Path b (node EX i) (node EX j) ⊎ Path b (node EX j) (node EX i))
   unfolding contend

@@ -1,22 +1,42 @@
 -- Sets of pairs: what a set has, and how many. Assumes nothing.
-use Prim.Native.Nat.{ℕ, _+_, _<_}
-use mathlib.Core.Path.{_≡_, refl, ap}
-use mathlib.Core.Bool.{Bool, false}
+use Prim.Native.Nat.{ℕ, _+_, _<_, _≤_}
+use mathlib.Core.Path.{_≡_, refl, ap, sym, _∙_}
+use mathlib.Core.Bool.{Bool, false, true, false≢true}
 use mathlib.Core.List.{List, [], _∷_}
 use native.Mathlib.Omega.{arith}
-use lib.ListN.{length}
+use lib.ListN.{length, getD, List·getD-eq-default}
 use Rattle.lists.specs.Lists.{In, tab, numbersWhere}
 use Rattle.lists.proofs.Bools.{by-test}
-use Rattle.lists.proofs.TableByIndex.{getD-tab}
-use Rattle.lists.proofs.NumbersWhere.{one, numbersWhere-parted, sum-parted, sum-one}
+use Rattle.lists.proofs.TableByIndex.{getD-tab, length-tab}
+use Rattle.lists.proofs.NumbersWhere.{oneIf, numbersWhere-parted, sum-parted, sum-one}
 use Rattle.lists.proofs.NumbersWhereGrowth.{in-numbersWhere}
 use Rattle.model.specs.Paths.{has, pairs, count}
+use lib.Dec.{ltb}
+use borrow.Author.Tests.{ltb-true, ltb-false}
 
 pub has-pairs : (n : ℕ) (p : ℕ → ℕ → Bool) (i j : ℕ) → i < n → j < n → has (pairs n p) i j ≡ p i j
 unfolding pairs
 has-pairs n p i j hi hj = rw (getD-tab n (λ k. tab n (p k)) i _ hi) (getD-tab n (p i) j false hj)
 
-pub count-parted : (n : ℕ) (p q r : ℕ → ℕ → Bool) → ((i j : ℕ) → i < j → j < n → one (p i j) ≡ one (q i j) + one (r i j))
+-- a set has no pair from n on
+pub has-below : (n : ℕ) (p : ℕ → ℕ → Bool) (i j : ℕ) → has (pairs n p) i j ≡ true → (i < n) × (j < n)
+unfolding pairs
+has-below n p i j t = by-test (ltb i n) (λ e. in-row (ltb-true i n e)) (λ e. absurd (none-after (ltb-false i n e)))
+  where
+    none-after : n ≤ i → ⊥
+    none-after l =
+        let r : getD (tab n (λ k. tab n (p k))) i [] ≡ [] = List·getD-eq-default (tab n (λ k. tab n (p k))) [] (omega (arith, length-tab n (λ k. tab n (p k)))) in
+        false≢true (sym (ap (λ (x : List Bool). getD x j false) r) ∙ t)
+
+    in-row : i < n → (i < n) × (j < n)
+    in-row l =
+        let r = getD-tab n (λ k. tab n (p k)) i [] l in
+        by-test (ltb j n) (λ e. (l, ltb-true j n e))
+        (λ e.
+        let z : getD (tab n (p i)) j false ≡ false = List·getD-eq-default (tab n (p i)) false (omega (arith, length-tab n (p i), ltb-false j n e)) in
+        absurd (false≢true (sym z ∙ sym (ap (λ (x : List Bool). getD x j false) r) ∙ t)))
+
+pub count-parted : (n : ℕ) (p q r : ℕ → ℕ → Bool) → ((i j : ℕ) → i < j → j < n → oneIf (p i j) ≡ oneIf (q i j) + oneIf (r i j))
     → count n p ≡ count n q + count n r
 unfolding count
 count-parted n p q r h =
@@ -27,7 +47,7 @@ count-none n = let e = count-parted n (λ i j. false) (λ i j. false) (λ i j. f
 
 pub count-ext : (n : ℕ) (p q : ℕ → ℕ → Bool) → ((i j : ℕ) → i < j → j < n → p i j ≡ q i j) → count n p ≡ count n q
 count-ext n p q h =
-    let e = count-parted n p q (λ i j. false) (λ i j l m. let s = ap one (h i j l m) in omega arith) in
+    let e = count-parted n p q (λ i j. false) (λ i j l m. let s = ap oneIf (h i j l m) in omega arith) in
     let z = count-none n in
     omega arith
 

@@ -25,13 +25,13 @@ in-pick x false xs ys h = inr (refl, h)
 -- one of the edges es leads from u to v
 pub record Leads (es : List Edges) (u v : ℕ) : Type 0 where
   pub by : Edges
-  pub one : In by es
+  pub listed : In by es
   pub to : by .to ≡ stage v
   pub far : by .far ≤ instruction v
   pub from : u ≡ node (by .from) (instruction v - by .far)
 
 leads-more : (e : Edges) (es : List Edges) (u v : ℕ) → Leads es u v → Leads (e ∷ es) u v
-leads-more e es u v l = record { by = l .by; one = inr (l .one); to = l .to; far = l .far; from = l .from }
+leads-more e es u v l = record { by = l .by; listed = inr (l .listed); to = l .to; far = l .far; from = l .from }
 
 pub into-leads : (es : List Edges) (u v : ℕ) → In u (into es v) → Leads es u v
 unfolding into
@@ -46,7 +46,7 @@ into-leads (e ∷ es) u v h =
     by-row (inl (t, inl q)) ih =
         record {
           by = e;
-          one = inl refl;
+          listed = inl refl;
           to = eqb-true (e .to) (stage v) (and-left _ (leb (e .far) (instruction v)) t);
           far = leb-true (e .far) (instruction v) (and-right (eqb (e .to) (stage v)) _ t);
           from = q;
@@ -110,7 +110,7 @@ sources-before b j i h = by-register (in-split i (source b (entry b j .reads1) j
 pub record Sourced (b : Block) (u v : ℕ) : Type 0 where
   pub ex : stage v ≡ EX
   pub by : ℕ
-  pub one : In by (sources b (instruction v))
+  pub listed : In by (sources b (instruction v))
   pub from : u ≡ node WB by
 
 pub finish-cases : (b : Block) (u v : ℕ) → In u (finishInto b v) → Leads (finishEdges b) u v ⊎ Sourced b u v
@@ -120,7 +120,7 @@ finish-cases b u v h = by-sort (in-split u (into (finishEdges b) v) (pick (isEX 
     more : ((isEX v ≡ true) × In u (map (node WB) (sources b (instruction v)))) ⊎ ((isEX v ≡ false) × In u []) → Sourced b u v
     more (inl (t, q)) =
         let x = in-map (node WB) u (sources b (instruction v)) q in
-        record { ex = eqb-true (stage v) EX t; by = x .0; one = x .1; from = x .2 }
+        record { ex = eqb-true (stage v) EX t; by = x .0; listed = x .1; from = x .2 }
     more (inr (t, q)) = absurd q
 
     by-sort : In u (into (finishEdges b) v) ⊎ In u (pick (isEX v) (map (node WB) (sources b (instruction v))) []) → Leads (finishEdges b) u v ⊎ Sourced b u v
@@ -143,7 +143,7 @@ abbrev Up : Edges → Type 0
 Up e = e .from < e .to + 5 * e .far
 
 leads-below : (es : List Edges) → Every Up es → (u v : ℕ) → Leads es u v → u < v
-leads-below es up u v l = let a = every Up es up (l .by) (l .one) in omega (arith, l .to, l .far, l .from)
+leads-below es up u v l = let a = every Up es up (l .by) (l .listed) in omega (arith, l .to, l .far, l .from)
 
 -- EVERY PREDECESSOR OF A NODE IS BELOW IT IN NODE ORDER
 module _ (b : Block) (A : Ranges b) where
@@ -161,7 +161,7 @@ module _ (b : Block) (A : Ranges b) where
     where
       goes-up : Leads (finishEdges b) u v ⊎ Sourced b u v → u < v
       goes-up (inl l) = leads-below (finishEdges b) finish-up u v l
-      goes-up (inr s) = omega (arith, s .ex, s .from, sources-before b (instruction v) (s .by) (s .one))
+      goes-up (inr s) = omega (arith, s .ex, s .from, sources-before b (instruction v) (s .by) (s .listed))
 
   pub order-below : (u v : ℕ) → In u (orderInto b v) → u < v
   unfolding orderInto
@@ -184,7 +184,7 @@ unfolding orderInto orderEdges
 order-off-EX b u v h t =
     let off : Every OffEX (orderEdges b) = (omega arith, λ e. omega arith) ▸ (omega arith, λ e. omega arith) ▸ (omega arith, λ e. omega arith) ▸ tt in
     let l = into-leads (orderEdges b) u v h in
-    let a = every OffEX (orderEdges b) off (l .by) (l .one) in
+    let a = every OffEX (orderEdges b) off (l .by) (l .listed) in
     a .1 (omega (arith, a .0, l .from, eqb-true (stage u) EX t))
 
 pub EX-leaves-by-finish : (b : Block) (i v : ℕ) → In (node EX i) (edgesInto b v) → In (node EX i) (finishInto b v)

@@ -52,6 +52,9 @@ paths b = tab (b .n) (λ i. let r = reached b (node EX i) in tab (b .n) (λ j. g
 -- "Two EX nodes contend if their kinds are equal and no path leads from one to the other.": those of instructions i and j.
 -- "distance below W, then follows": contend-near
 pub record Contends (b : Block) (i j : ℕ) : Type 0 where
+  -- both are instructions of the block, and they are two
+  pub first : i < b .n
+  pub second : j < b .n
   pub two : i ≡ j → ⊥
   pub kinds : entry b i .kind ≡ entry b j .kind
   pub no-path : Path b (node EX i) (node EX j) → ⊥

@@ -54,7 +54,7 @@ apart b early late i j =
     leb (finish (highest b) late (node EX i)) (getD early (node EX j) 0)
     || leb (finish (highest b) late (node EX j)) (getD early (node EX i) 0)
 
--- "a new pair apart": one that is apart after the round and was not known to be
+-- "new pair apart": one that is apart after the round and was not known to be
 unfoldable pub new : Block → Pairs → Pairs → List ℕ → List ℕ → ℕ → ℕ → Bool
 new b con known early late i j = rival con known i j && apart b early late i j
 

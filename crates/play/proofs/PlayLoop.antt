@@ -72,7 +72,7 @@ module _ (b : Block) (lat : ℕ → ℕ) (t from : ℕ) (s stages ends : List �
           counted = W .running .counted;
           held = W .running .held;
           few = at-most;
-          front = left;
+          front = left-behind;
         };
       }
     where
@@ -82,8 +82,8 @@ module _ (b : Block) (lat : ℕ → ℕ) (t from : ℕ) (s stages ends : List �
           (λ y. let z : from' ≡ from + 1 = rw y at e in omega (arith, z))
           (λ n. let z : from' ≡ from + 0 = rw n at e in omega (arith, z))
 
-      left : (i : ℕ) → i < from' → getD stages i 0 ≡ 5
-      left i k =
+      left-behind : (i : ℕ) → i < from' → getD stages i 0 ≡ 5
+      left-behind i k =
           by-test (eqb i from)
           (λ y.
           let q : i ≡ from = eqb-true i from y in

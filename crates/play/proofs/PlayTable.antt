@@ -4,8 +4,7 @@ use mathlib.Core.Path.{_≡_, refl, ap, _∙_}
 use mathlib.Core.List.{List, [], _∷_, _++_}
 use native.Mathlib.Omega.{arith}
 use lib.ListN.{getD, drop}
-use Rattle.lists.specs.Lists.{pick, joined}
-use Rattle.lists.specs.inside.Stores.{put}
+use Rattle.lists.specs.Lists.{pick, joined, put}
 use Rattle.lists.proofs.JoinedPieces.{joined-ext, piecesIn, pieces-none, pieces-more}
 use Rattle.record.specs.declared.Block.{Block}
 use Rattle.record.proofs.AcceptedRanges.{ranges}

@@ -55,7 +55,7 @@ module _ (b : Block) (h : Shape) (s1 s2 : List ℕ) (U : Unpacked b h s1 s2) (ki
           front = M .front;
           later = M .later;
           most = M .most;
-          still = ⊎-elim (λ q. inl q) (λ S. inr (on S)) (M .still);
+          still = ⊎-elim (λ q. inl q) (λ S. inr (still-on S)) (M .still);
         }
       where
         none : (j : ℕ) → i < j → getD stages j 0 ≡ 0
@@ -83,8 +83,8 @@ module _ (b : Block) (h : Shape) (s1 s2 : List ℕ) (U : Unpacked b h s1 s2) (ki
             (row-idle b lat t s stages (M .counted) j (omega arith) (λ five. rw (none j (omega arith)) (fetch j (omega arith) (omega arith))))
             v (omega arith) (omega arith)
 
-        on : Still b lat t s₀ (i + 1) s stages next → Still b lat t s₀ (b .n) s stages next
-        on S =
+        still-on : Still b lat t s₀ (i + 1) s stages next → Still b lat t s₀ (b .n) s stages next
+        still-on S =
             record {
               same = S .same;
               idle = λ v m. by-test (ltb v (5 * (i + 1)))

@@ -6,7 +6,7 @@ ghost use lib.ListN.{length, getD, replicate};
 ghost use lib.Dec.{eqb};
 ghost use Rattle.lists.specs.Lists.{pick};
 ghost use Rattle.record.specs.declared.Block.{Block};
-ghost use Rattle.model.specs.Nodes.{chosen};
+ghost use Rattle.model.specs.Nodes.{WB, chosen};
 ghost use Rattle.model.specs.Cycles.{notStarted, play};
 ghost use Rattle.unpacked.specs.inside.UnpackedBlock.{Unpacked};
 ghost use Rattle.play.specs.inside.NodeTurn.{TurnLeaves};
@@ -24,7 +24,7 @@ use unpacked::time;
 // When to look again, stage g being able to start at r: a WB starts when its EX has finished, and what waits for other nodes
 // is seen when they start.
 fn again(g: usize, r: u32) -> u32
-    ensures { λ x. ⌜ x ≡ pick (eqb g 3) r 30780 ⌝ }
+    ensures { λ x. ⌜ x ≡ pick (eqb g WB) r 30780 ⌝ }
 {
     if g == WB { r } else { 30780 }
 }

@@ -8,8 +8,7 @@ use native.Mathlib.Omega.{arith}
 use lib.ListN.{length, getD, drop, drop-of-length-le, List·getD-append}
 use lib.Dec.{eqb, ltb}
 use borrow.Author.Tests.{eq-eqb, ne-eqb, eqb-true, ltb-true, ltb-false, not-false}
-use Rattle.lists.specs.Lists.{pick, least}
-use Rattle.lists.specs.inside.Stores.{put}
+use Rattle.lists.specs.Lists.{pick, least, put}
 use Rattle.lists.specs.Bytes.{bytes}
 use Rattle.lists.proofs.Least.{least-from, least-past, least-back, least-ext}
 use Rattle.lists.proofs.JoinedPieces.{put-next, piecesIn, pieces-none, pieces-more, pieces-all}
@@ -37,7 +36,7 @@ module _ (b : Block) where
   unfolding outside headBytes headerTable lows highs
   letters-right = each (λ k. outside (headBytes b) k ≡ false) 4 (refl ▹ refl ▹ refl ▹ refl ▹ end)
 
-  -- one walk over its 28 header bytes stops at the lowest of bytes 4 to 27
+  -- one walk over its 28 header bytes stops at the first of bytes 4 to 27
   pub head-walk : least 0 28 (outside (headBytes b)) ≡ least 4 28 (outside (encoded b))
   head-walk =
       let past : 4 ≤ least 0 28 (outside (headBytes b))

@@ -39,7 +39,7 @@ module _ (t : Test) (ts : List Test) where
       absurd (omega (arith, ap (λ (p : ℕ × ℕ). p .0) z)))
       (λ g. (g, rw g at e))
 
--- a test whose place is the lowest fault
+-- a test whose place is the first fault
 module _ (k a b : ℕ) (p : ℕ → Bool) (ts : List Test) where
   pub refuse-firstFault : (h : ℕ) → h ≡ least a b p → h < b → verdict (firstFault k a b p ∷ ts) ≡ (k, h)
   refuse-firstFault h e l = rw e (refuse (firstFault k a b p) ts (lt-ltb (least a b p) b (omega arith)))

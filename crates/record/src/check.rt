@@ -2,7 +2,7 @@
 ghost use mathlib.Core.Path.{_≡_};
 ghost use Prim.Native.Nat.{_+_, _≤_, _<_};
 ghost use lib.ListN.{length};
-ghost use Rattle.lists.specs.inside.Stores.{put};
+ghost use Rattle.lists.specs.Lists.{put};
 ghost use Rattle.lists.specs.Bytes.{little, bytes};
 ghost use Rattle.record.specs.Check.{checkOf};
 

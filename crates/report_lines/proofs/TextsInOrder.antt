@@ -8,8 +8,7 @@ use native.Mathlib.Omega.{arith}
 use lib.ListN.{length, take, drop, set, length-append, length-drop}
 use lib.Seq.{length-take-le, sets-eq}
 use Rattle.io.specs.Counts.{Counts}
-use Rattle.lists.specs.Lists.{joined}
-use Rattle.lists.specs.inside.Stores.{put}
+use Rattle.lists.specs.Lists.{joined, put}
 use Rattle.lists.proofs.JoinedPieces.{put-next}
 use Rattle.report_lines.specs.Text.{decimal, spaced}
 

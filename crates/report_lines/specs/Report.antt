@@ -1,4 +1,4 @@
--- "The report program reads records from standard input": what it prints, from "Line one is the header" on.
+-- "Blocks worked by hand", its end: what the report program prints, from "Line one is the header" on.
 use Prim.Native.Nat.{ℕ, _+_, _*_, _/_}
 use Prim.Native.Char.{code}
 use mathlib.Core.List.{List, [], _∷_, _++_}

@@ -1,4 +1,4 @@
--- "For E as production block 7, then F as classroom block 8"
+-- "Blocks worked by hand", its end: "For E as production block 7, then F as classroom block 8"
 use Prim.Native.Nat.{ℕ}
 use Rattle.record.specs.declared.Block.{Block}
 use Rattle.model.specs.Blocks.{blockE, blockF}

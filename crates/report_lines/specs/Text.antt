@@ -1,4 +1,4 @@
--- "The report program", its fields: numbers as text, and "One space parts the fields".
+-- "Blocks worked by hand", its end: the fields of the report, numbers as text and "One space parts the fields".
 use Prim.Native.Nat.{ℕ, zero, suc, _+_, _/_, _%_}
 use Prim.Native.Char.{code}
 use mathlib.Core.List.{List, [], _∷_, _++_}

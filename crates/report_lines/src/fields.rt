@@ -3,7 +3,7 @@ ghost use mathlib.Core.Path.{_≡_};
 ghost use mathlib.Core.List.{[], _∷_, _++_};
 ghost use Prim.Native.Nat.{_+_, _≤_};
 ghost use lib.ListN.{length};
-ghost use Rattle.lists.specs.inside.Stores.{put};
+ghost use Rattle.lists.specs.Lists.{put};
 ghost use Rattle.report_lines.specs.Text.{decimal};
 
 // Puts a text in place, and gives the place after it.

@@ -4,8 +4,8 @@ ghost use mathlib.Core.List.{[], _∷_};
 ghost use Prim.Native.Nat.{_+_, _*_, _≤_, min};
 ghost use lib.ListN.{length, take};
 ghost use Rattle.io.specs.Counts.{Counts};
-ghost use Rattle.lists.specs.inside.Stores.{put};
-ghost use Rattle.lists.specs.Bytes.{little};
+ghost use Rattle.lists.specs.Lists.{put};
+ghost use Rattle.lists.specs.Bytes.{ascii, little};
 ghost use Rattle.record.specs.Refusals.{blockVerdict};
 ghost use Rattle.analysis.specs.Result.{result};
 ghost use Rattle.theorems.specs.Words.{ByteLatencies};
@@ -33,7 +33,7 @@ fn letter_of(origin: u8) -> u8
 fn origin_into(origin: u8, at: usize, out: &mut [u8]) -> usize
     requires { ⌜ at + 2 ≤ length (now out) ⌝ }
     ensures { λ r. ⌜ r ≡ at + 2 ⌝ }
-    ensures { λ _. ⌜ now (out .exit) ≡ put (now (out .entry)) at (letter origin ∷ 32 ∷ []) ⌝ }
+    ensures { λ _. ⌜ now (out .exit) ≡ put (now (out .entry)) at (letter origin ∷ ascii " ") ⌝ }
 {
     let x = letter_of(origin);
     out[at] = x;

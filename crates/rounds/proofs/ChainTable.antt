@@ -112,10 +112,10 @@ nearby-contending b A kinds a same table j h =
     sym
     (numbersWhere-front (has (contending b) j) 0 (j + 1 - b .w) j (omega arith) (omega (arith, A .w .0))
     (λ k l m.
-    at k (omega arith)
+    contending-row k (omega arith)
     ∙ rw (le-leb (k + b .w) j (omega arith)) (and-false (eqb (entry b k .kind) (entry b j .kind))))
     ∙ numbersWhere-ext (has (contending b) j) _ (j + 1 - b .w) j
-    (λ k l m. at k m ∙ rw (lt-leb (k + b .w) j (omega arith), same k (omega arith), same j h, table .at k j (omega arith) h) refl))
+    (λ k l m. contending-row k m ∙ rw (lt-leb (k + b .w) j (omega arith), same k (omega arith), same j h, table .at k j (omega arith) h) refl))
   where
-    at : (k : ℕ) → k < j → has (contending b) j k ≡ (eqb (entry b k .kind) (entry b j .kind) && not (leb (k + b .w) j || has (chains b) j k))
-    at k l = contending-even b j k h (omega arith) ∙ contending-chains b A k j l h
+    contending-row : (k : ℕ) → k < j → has (contending b) j k ≡ (eqb (entry b k .kind) (entry b j .kind) && not (leb (k + b .w) j || has (chains b) j k))
+    contending-row k l = contending-even b j k h (omega arith) ∙ contending-chains b A k j l h

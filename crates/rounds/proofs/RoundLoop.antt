@@ -11,7 +11,7 @@ use lib.Seq.{drop-at}
 use lib.Dec.{ltb}
 use borrow.Author.Tests.{eq-eqb, ne-eqb, ltb-true, ltb-false}
 use Rattle.lists.specs.Lists.{In, numbersWhere, least}
-use Rattle.lists.specs.inside.Stores.{kept}
+use Rattle.lists.specs.inside.Kept.{kept}
 use Rattle.lists.specs.Sums.{sum, any}
 use Rattle.lists.proofs.Bools.{by-test}
 use Rattle.lists.proofs.Least.{least-most}
@@ -53,7 +53,7 @@ module _ (b : Block) where
         enough = let e = count-ext (b .n) (rival (contending b) []) (has (contending b)) (λ i j l m. first-rival i j) in omega (arith, e);
         rows = record {
           few = R .few;
-          numbersWhere = λ j h. R .numbersWhere j h ∙ numbersWhere-ext (has (contending b) j) (rival (contending b) [] j) 0 j (λ i a l. sym (first-rival j i));
+          listed = λ j h. R .listed j h ∙ numbersWhere-ext (has (contending b) j) (rival (contending b) [] j) 0 j (λ i a l. sym (first-rival j i));
         };
         even = record { even = λ i j hi hj. first-rival i j ∙ contending-even b i j hi hj ∙ sym (first-rival j i) };
       }

@@ -8,7 +8,7 @@ use native.Mathlib.Nat.{add-zero}
 use lib.ListN.{length, getD, take, drop, set, length-drop, length-set}
 use lib.Seq.{getD-take, getD-drop, getD-set-same, length-take-le, take-set-le, drop-set-lt, drop-drop}
 use Rattle.lists.specs.Lists.{pick}
-use Rattle.lists.specs.inside.Stores.{kept}
+use Rattle.lists.specs.inside.Kept.{kept}
 use Rattle.lists.specs.Sums.{any}
 use Rattle.lists.proofs.Bools.{by-test}
 use Rattle.lists.proofs.Members.{any-in}

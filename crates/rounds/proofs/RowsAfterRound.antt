@@ -10,7 +10,7 @@ use lib.Seq.{length-take-le, getD-take}
 use lib.Dec.{leb, ltb}
 use borrow.Author.Tests.{ltb-true, ltb-false}
 use Rattle.lists.specs.Lists.{numbersWhere, least}
-use Rattle.lists.specs.inside.Stores.{kept}
+use Rattle.lists.specs.inside.Kept.{kept}
 use Rattle.lists.specs.Sums.{sum, any}
 use Rattle.lists.proofs.Bools.{by-test}
 use Rattle.lists.proofs.TableByIndex.{is-tab}
@@ -42,7 +42,7 @@ module _ (n : ℕ) (p : ℕ → ℕ → Bool) (even : Even n p) (list counts : L
       (λ j h.
       getD-take n counts j 0 h
       ∙ sym (row-length j h)
-      ∙ ap length (R .numbersWhere j h ∙ numbersWhere-ext (p j) (λ i. p i j) 0 j (λ i a l. even .even j i h (omega arith)))))
+      ∙ ap length (R .listed j h ∙ numbersWhere-ext (p j) (λ i. p i j) 0 j (λ i a l. even .even j i h (omega arith)))))
 
 -- ---- one round
 or-even : (s t : Bool) → (s || t) ≡ (t || s)
@@ -91,7 +91,7 @@ module _ (b : Block) (con known : Pairs) (late : List ℕ) where
         numbersWhere-ext _ (λ i. rival con known j i && apartEX his early stored j i) 0 j
         (λ i a l. rw (E .even i j (omega arith) h, apart-even i j, apart-same j i h (omega arith)) refl)
         ∙ numbersWhere-kept (rival con known j) (apartEX his early stored j) 0 j
-        ∙ ap (kept (apartEX his early stored j)) (sym (R .numbersWhere j h))
+        ∙ ap (kept (apartEX his early stored j)) (sym (R .listed j h))
 
     -- j's row has one that is apart from it
     abbrev hit : ℕ → Bool
@@ -123,7 +123,7 @@ module _ (b : Block) (con known : Pairs) (late : List ℕ) where
           → ((j : ℕ) → j < b .n → at ≤ j → row list' counts' j ≡ kept (λ i. not (apartEX his early stored j i)) (row list counts j))
           → ((j : ℕ) → j < at → row list' counts' j ≡ row list counts j)
           → Rows (b .n) (rival con (after b con known (earliest b) late)) list' counts'
-      rows-left list' counts' small from before = record { few = small; numbersWhere = each }
+      rows-left list' counts' small from before = record { few = small; listed = each }
         where
           each : (j : ℕ) → j < b .n → row list' counts' j ≡ numbersWhere 0 j (rival con (after b con known (earliest b) late) j)
           each j h =
@@ -131,7 +131,7 @@ module _ (b : Block) (con known : Pairs) (late : List ℕ) where
               by-test (ltb j at)
               (λ t. let l = ltb-true j at t in before j l ∙ sym (quiet-kept (apartEX his early stored j) (row list counts j) (clear j l h)))
               (λ t. from j h (ltb-false j at t))
-              ∙ ap (kept p) (R .numbersWhere j h)
+              ∙ ap (kept p) (R .listed j h)
               ∙ sym (numbersWhere-kept (rival con known j) p 0 j)
               ∙ numbersWhere-ext (λ i. rival con known j i && p i) (rival con (after b con known (earliest b) late) j) 0 j
               (λ i a l. ap (λ (u : Bool). rival con known j i && not u) (apart-same j i h (omega arith)) ∙ sym (left-is j i h (omega arith)))

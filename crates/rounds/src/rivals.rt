@@ -7,7 +7,7 @@ ghost use Prim.Native.Nat.{ℕ, _+_, _*_, _≤_, _<_, max};
 ghost use lib.ListN.{length, getD, take};
 ghost use lib.Dec.{eqb};
 ghost use Rattle.lists.specs.Lists.{pick, numbersWhere, least};
-ghost use Rattle.lists.specs.inside.Stores.{kept};
+ghost use Rattle.lists.specs.inside.Kept.{kept};
 ghost use Rattle.lists.specs.Sums.{largest, sum, any};
 ghost use Rattle.rounds.specs.inside.PairRows.{row, Rows, apartEX};
 use crate::times::finish_ex;

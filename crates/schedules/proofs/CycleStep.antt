@@ -54,19 +54,19 @@ module _ (b : Block) (A : Ranges b) (lo : ℕ → ℕ) (pos : (v : ℕ) → v < 
   abbrev Left : ℕ → Type 0
   Left u = (start s u ≡ notStarted) × (begun b lat H s u ≡ false) × (start after u ≡ notStarted)
 
-  cases : (u : ℕ) → u < nodes b → Old u ⊎ (New u ⊎ Left u)
-  cases u l = by-turn (begun b lat H s u) refl (known u l)
+  old-new-left : (u : ℕ) → u < nodes b → Old u ⊎ (New u ⊎ Left u)
+  old-new-left u l = by-turn (begun b lat H s u) refl (known u l)
     where
-      is : start after u ≡ pick (begun b lat H s u) H (start s u)
-      is = turns-below b lat H s (nodes b) u l long
+      start-after : start after u ≡ pick (begun b lat H s u) H (start s u)
+      start-after = turns-below b lat H s (nodes b) u l long
 
       by-turn : (t : Bool) → begun b lat H s u ≡ t → Known H (start s u) → Old u ⊎ (New u ⊎ Left u)
       by-turn true e k =
           let w = unstarted-start (now u) u (now-long u u l) (begins-means b lat H (now u) u e .waiting) in
           let q : start s u ≡ notStarted = omega (arith, turns-later b lat H s u u (omega arith)) in
-          inr (inl (q, e, rw e at is))
-      by-turn false e (inl k) = inl (k, rw e at is)
-      by-turn false e (inr k) = inr (inr (k, e, (rw e at is) ∙ k))
+          inr (inl (q, e, rw e at start-after))
+      by-turn false e (inl k) = inl (k, rw e at start-after)
+      by-turn false e (inr k) = inr (inr (k, e, (rw e at start-after) ∙ k))
 
   -- the starts as they are seen after this cycle
   abbrev next : ℕ → ℕ
@@ -87,7 +87,7 @@ module _ (b : Block) (A : Ranges b) (lo : ℕ → ℕ) (pos : (v : ℕ) → v < 
         old e (inr (inr o)) = absurd (omega (arith, o .0))
 
         by-place : Dec (v ≤ w) → (start after w ≡ start (now v) w) × (v ≤ w → start after w < H)
-        by-place (yes k) = old (turns-later b lat H s v w k) (cases w lw)
+        by-place (yes k) = old (turns-later b lat H s v w k) (old-new-left w lw)
         by-place (no k) = (sym (now-before w (omega arith)), λ x. absurd (omega arith))
 
     after-now : (w : ℕ) → w < nodes b → (v ≤ w → start after w < H) → start (now v) w ≡ start after w
@@ -99,7 +99,7 @@ module _ (b : Block) (A : Ranges b) (lo : ℕ → ℕ) (pos : (v : ℕ) → v < 
         old k (inr (inr o)) = absurd (omega (arith, h k, o .2))
 
         by-place : Dec (v ≤ w) → start (now v) w ≡ start after w
-        by-place (yes k) = turns-later b lat H s v w k ∙ old k (cases w lw)
+        by-place (yes k) = turns-later b lat H s v w k ∙ old k (old-new-left w lw)
         by-place (no k) = now-before w (omega arith)
 
     -- the EX of v's kind that run at v's turn are those that are busy in the schedule
@@ -169,7 +169,7 @@ module _ (b : Block) (A : Ranges b) (lo : ℕ → ℕ) (pos : (v : ℕ) → v < 
         }
       where
         at-most : (u : ℕ) → u < nodes b → (start (now v) u ≡ notStarted → ⊥) → start (now v) u ≡ start after u → start after u ≤ H
-        at-most u lu n e = by-case (cases u lu)
+        at-most u lu n e = by-case (old-new-left u lu)
           where
             by-case : Old u ⊎ (New u ⊎ Left u) → start after u ≤ H
             by-case (inl o) = omega (arith, o .0, o .1)
@@ -191,7 +191,7 @@ module _ (b : Block) (A : Ranges b) (lo : ℕ → ℕ) (pos : (v : ℕ) → v < 
 
   -- ONE CYCLE IS A STEP
   pub turns-next : Next G lat H (seen H s) (seen (suc H) (turns b lat H s (nodes b)))
-  turns-next = record { keep = λ v l h. keep v (cases v l) h; fresh = λ v l h. fresh v l (cases v l) h }
+  turns-next = record { keep = λ v l h. keep v (old-new-left v l) h; fresh = λ v l h. fresh v l (old-new-left v l) h }
     where
       keep : (v : ℕ) → Old v ⊎ (New v ⊎ Left v) → seen H s v < H → next v ≡ seen H s v
       keep v (inl o) h = omega (arith, o .0, o .1)
@@ -206,7 +206,7 @@ module _ (b : Block) (A : Ranges b) (lo : ℕ → ℕ) (pos : (v : ℕ) → v < 
 
   -- and leaves starts of this cycle or before it
   pub turns-known : (v : ℕ) → v < nodes b → Known (suc H) (start (turns b lat H s (nodes b)) v)
-  turns-known v l = known-after (cases v l)
+  turns-known v l = known-after (old-new-left v l)
     where
       known-after : Old v ⊎ (New v ⊎ Left v) → Known (suc H) (start after v)
       known-after (inl o) = inl (omega (arith, o .0, o .1))

@@ -11,15 +11,15 @@ pub fn has(row: u64, i: usize) -> bool {
     row & bit(i) != 0
 }
 
-// The lowest instruction of a row that is not empty.
-pub fn lowest(row: u64) -> usize
+// The first instruction of a row that is not empty.
+pub fn first_of(row: u64) -> usize
     ensures { λ r. ⌜ r < 60 ⌝ }
 {
     let k = u64::trailing_zeros(row);
     if k < 60 { k as usize } else { 59 }
 }
 
-pub fn without_lowest(row: u64) -> u64 {
+pub fn without_first(row: u64) -> u64 {
     if row == 0 { 0 } else { row & (row - 1) }
 }
 

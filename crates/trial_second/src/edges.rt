@@ -17,7 +17,7 @@ const IF: usize = 0;
 
 const ID: usize = 1;
 
-const EX: usize = 2;
+pub const EX: usize = 2;
 
 const WB: usize = 3;
 

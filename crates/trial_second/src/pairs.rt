@@ -2,10 +2,11 @@
 // to be apart from it.
 use crate::closure::bit;
 use crate::closure::closed;
+use crate::closure::first_of;
 use crate::closure::has;
-use crate::closure::lowest;
 use crate::closure::row_of;
-use crate::closure::without_lowest;
+use crate::closure::without_first;
+use crate::edges::EX;
 use crate::sheet::BEYOND;
 use crate::sheet::FINISH;
 use crate::sheet::HI;
@@ -25,7 +26,7 @@ use record::Block;
 
 // The EX node of instruction i.
 fn ex(i: usize) -> usize {
-    i % 60 * 5 + 2
+    i % 60 * 5 + EX
 }
 
 // The instructions before j of the same kind, where no path leads from one EX to the other.
@@ -36,7 +37,7 @@ fn contenders(rows: &[u64; 300], kinds: &[u8; 60], kind: u8, j: usize) -> u64 {
         if j <= i {
             break;
         }
-        let path = has(rows[5 * i + 2], j) || has(from, i);
+        let path = has(rows[5 * i + EX], j) || has(from, i);
         if kinds[i] == kind && !path {
             r = r | bit(i);
         }
@@ -78,11 +79,11 @@ fn weigh(m: &mut [u32; 2240], j: usize, earlier: u64) {
         if x == 0 {
             break;
         }
-        let i = lowest(x);
+        let i = first_of(x);
         sum = plus(sum, plus(get(m, BEYOND, ex(i)), 1));
         let later = larger(beyond, get(m, LATER, i));
         set(m, LATER, i, later);
-        x = without_lowest(x);
+        x = without_first(x);
     }
     set(m, EARLIER, j, sum);
 }
@@ -110,11 +111,11 @@ fn left(early: &[u32; 2240], late: &[u32; 2240], j: usize, earlier: u64) -> u64 
         if x == 0 {
             break;
         }
-        let i = lowest(x);
+        let i = first_of(x);
         if !apart(early, late, i, j) {
             r = r | bit(i);
         }
-        x = without_lowest(x);
+        x = without_first(x);
     }
     r
 }

@@ -1,5 +1,6 @@
 // A sheet is seven tables of 320 numbers, read and written with a guard. Nodes stand at 0 to 299.
 ghost use Prim.Native.Nat.{_<_, _≤_};
+use crate::edges::EX;
 use record::Block;
 use record::Entry;
 
@@ -100,7 +101,7 @@ pub fn column(b: Block, k: usize) -> [u8; 60] {
 // Lays the latencies of EX; all others are 1.
 pub fn lay(m: &mut [u32; 2240], lat: &[u8; 60]) {
     for i in 0..60 {
-        set(m, BEYOND, 5 * i + 2, minus(wide(lat[i]), 1));
+        set(m, BEYOND, 5 * i + EX, minus(wide(lat[i]), 1));
     }
 }
 

@@ -1,8 +1,9 @@
 // Times by relaxation: sweeps over the list of edges until one changes nothing. The sets in `open` hold, for each EX,
 // the earlier ones that it contends with and is not known to be apart from; where all are empty the rule for EX falls
 // away.
-use crate::closure::lowest;
-use crate::closure::without_lowest;
+use crate::closure::first_of;
+use crate::closure::without_first;
+use crate::edges::EX;
 use crate::edges::from_of;
 use crate::edges::sort_of;
 use crate::edges::to_of;
@@ -34,8 +35,8 @@ fn largest_finish(m: &[u32; 2240], set: u64) -> u32 {
         if x == 0 {
             break;
         }
-        r = larger(r, get(m, FINISH, 5 * lowest(x) + 2));
-        x = without_lowest(x);
+        r = larger(r, get(m, FINISH, 5 * first_of(x) + EX));
+        x = without_first(x);
     }
     r
 }

@@ -1,4 +1,5 @@
--- Chains of registers as a table: what contention comes to (paths-chains, contending-chains).
+-- Chains of registers as a table. Only promises of inside functions use it; that contention comes to this is in
+-- proofs/Chains (paths-chains, contending-chains).
 use mathlib.Core.Bool.{_||_}
 use lib.Dec.{eqb}
 use Rattle.lists.specs.Lists.{tab, inOrder}

@@ -1,5 +1,5 @@
 -- What is known of a block while it is played: its kinds and latencies, from when on each kind's unit is free, and, in the
--- whole play, how many stages of each instruction have started.
+-- whole play, how many stages of each instruction have started. Only promises of inside functions use these words.
 use Prim.Native.Nat.{ℕ, _≤_, _<_}
 use mathlib.Core.Path.{_≡_}
 use mathlib.Core.Logic.{_⊎_}

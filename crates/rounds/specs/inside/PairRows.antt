@@ -1,4 +1,5 @@
--- The pairs as the code has them: for each instruction a row of those before it, in order, and how many they are.
+-- The pairs as the code has them: for each instruction a row of those before it, in order, and how many they are. Only
+-- promises of inside functions use these words; that the rows have the model's pairs is in proofs/RowsAfterRound.
 use Prim.Native.Nat.{ℕ, _+_, _*_, _<_, _≤_}
 use mathlib.Core.Path.{_≡_}
 use mathlib.Core.Bool.{Bool, false, _||_}
@@ -19,7 +20,7 @@ row list count j = take (getD count j 0) (drop (60 * j) list)
 -- each row below n has those before its instruction at which p holds
 pub record Rows (n : ℕ) (p : ℕ → ℕ → Bool) (list count : List ℕ) : Type 0 where
   pub few : (j : ℕ) → getD count j 0 ≤ 60
-  pub numbersWhere : (j : ℕ) → j < n → row list count j ≡ numbersWhere 0 j (p j)
+  pub listed : (j : ℕ) → j < n → row list count j ≡ numbersWhere 0 j (p j)
 
 -- p holds of i and j if it does of j and i
 pub record Even (n : ℕ) (p : ℕ → ℕ → Bool) : Type 0 where

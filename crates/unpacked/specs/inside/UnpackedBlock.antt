@@ -1,4 +1,4 @@
--- A block unpacked: its header's numbers, and its sources as numbers.
+-- A block unpacked: its header's numbers, and its sources as numbers. Only promises of inside functions use these words.
 use Prim.Native.Nat.{ℕ, _+_, _<_, _≤_}
 use mathlib.Core.Path.{_≡_}
 use mathlib.Core.List.{List, [], _∷_}

@@ -5,7 +5,7 @@ use Prim.Native.Nat.{_+_, _*_, _%_, _≤_, _-_}
 use native.Mathlib.Omega.{arith}
 use lib.ListN.{length, getD}
 use Rattle.record.proofs.AcceptedRanges.{ranges}
-use Rattle.lists.specs.inside.Stores.{put}
+use Rattle.lists.specs.Lists.{put}
 use Rattle.analysis.proofs.WindowTable.{tableIn, table-none, table-more, table-all}
 use borrow.Author.Needs.{needs}
 use Rattle.analysis.proofs.outputs.put_table.Statement.{statement}

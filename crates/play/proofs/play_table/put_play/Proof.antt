@@ -4,7 +4,7 @@ use mathlib.Core.List.{[], _∷_}
 use Prim.Native.Nat.{_+_, _*_, _%_, _≤_, _-_}
 use native.Mathlib.Omega.{arith}
 use lib.ListN.{length, getD}
-use Rattle.lists.specs.inside.Stores.{put}
+use Rattle.lists.specs.Lists.{put}
 use Rattle.play.proofs.PlayTable.{tableIn, table-none, table-more, table-all}
 use borrow.Author.Needs.{needs}
 use Rattle.play.proofs.play_table.put_play.Statement.{statement}

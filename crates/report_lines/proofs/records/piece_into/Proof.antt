@@ -4,8 +4,7 @@ use mathlib.Core.Path.{_≡_, refl}
 use Prim.Native.Nat.{_+_, _*_, _/_, _≤_, _-_}
 use native.Mathlib.Omega.{arith}
 use lib.ListN.{length, take, drop}
-use Rattle.lists.specs.Lists.{joined}
-use Rattle.lists.specs.inside.Stores.{put}
+use Rattle.lists.specs.Lists.{joined, put}
 use Rattle.report_lines.specs.Report.{line, recordAt, records, linesFrom}
 use Rattle.report_lines.proofs.ArchiveRecords.{record-part}
 use Rattle.report_lines.proofs.TextsInOrder.{texts-more}

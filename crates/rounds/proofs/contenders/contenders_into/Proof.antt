@@ -75,7 +75,7 @@ returns c =
           let table : ChainRows b (x .h .n) a = g .ensures b (sym (u .shape .n)) (u .sources) in
           record {
             few = t .inv .4;
-            numbersWhere = λ j h.
+            listed = λ j h.
                 t .inv .5 j (omega (arith, u .shape .n))
                 ∙ ap (λ (w : ℕ). nearby w (x .kinds .now) a j) (u .shape .w)
                 ∙ nearby-contending b (ranges b (u .accepted)) (x .kinds .now) a same (rw (u .shape .n) at table) j h;

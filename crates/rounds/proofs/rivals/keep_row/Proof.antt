@@ -5,7 +5,7 @@ use Prim.Native.Nat.{ℕ, _≤_, _<_, _-_}
 use native.Mathlib.Omega.{arith}
 use lib.ListN.{length, getD, take, drop, length-set}
 use Rattle.lists.specs.Lists.{pick}
-use Rattle.lists.specs.inside.Stores.{kept}
+use Rattle.lists.specs.inside.Kept.{kept}
 use Rattle.lists.proofs.Fronts.{take-end}
 use Rattle.rounds.specs.inside.PairRows.{apartEX}
 use Rattle.rounds.proofs.RowScan.{keep-more, rest-more}

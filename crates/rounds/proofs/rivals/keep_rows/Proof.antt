@@ -7,7 +7,7 @@ use native.Mathlib.Omega.{arith}
 use lib.ListN.{length, getD, take, drop, set, length-set, length-drop}
 use lib.Seq.{length-take-le}
 use borrow.Author.Count.{below-more}
-use Rattle.lists.specs.inside.Stores.{kept}
+use Rattle.lists.specs.inside.Kept.{kept}
 use Rattle.rounds.specs.inside.PairRows.{row, apartEX}
 use Rattle.rounds.proofs.RowStore.{placed, placed-length, row-same, row-other, all-placed}
 use borrow.Author.Needs.{needs}

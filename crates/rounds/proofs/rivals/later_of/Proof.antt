@@ -43,7 +43,7 @@ loop-again c =
       λ p R i h.
           let n : 60 * t .j + getD (x .count .now) (t .j) 0 - 60 * t .j ≡ getD (x .count .now) (t .j) 0 = omega arith in
           let q : take (60 * t .j + getD (x .count .now) (t .j) 0 - 60 * t .j) (drop (60 * t .j) (x .list .now)) ≡ numbersWhere 0 (t .j) (p (t .j))
-          = ap (λ (k : ℕ). take k (drop (60 * t .j) (x .list .now))) n ∙ R .numbersWhere (t .j) (omega arith) in
+          = ap (λ (k : ℕ). take k (drop (60 * t .j) (x .list .now))) n ∙ R .listed (t .j) (omega arith) in
           c .before .later-row .ensures i ∙ rw (q, t .inv .2 p R i h) (sym (later-more p (λ k. getD (x .his .now) k 0) i (t .j))),
     )
 

@@ -76,7 +76,7 @@ loop-again c =
       λ b con known U L R E.
           let below : i < b .n = omega (arith, U .shape .n, t .inv .0) in
           let these : take (60 * i + getD (x .count .now) i 0 - 60 * i) (drop (60 * i) (x .list .now)) ≡ numbersWhere 0 i (rival con known i)
-          = ap (λ (m : ℕ). take m (drop (60 * i) (x .list .now))) n ∙ R .numbersWhere i below in
+          = ap (λ (m : ℕ). take m (drop (60 * i) (x .list .now))) n ∙ R .listed i below in
           let later : getD (c .before .before .before .before .before .before .before .before .before .before .before .before .before .before .before .before .before .before .before .before .later-of .result) i 0 ≡ largest (map (λ j. getD (x .his .now) j 0) (numbersWhere (i + 1) (b .n) (λ j. rival con known j i)))
           = later-same (x .h .n) (b .n) (U .shape .n) (rival con known) (x .list .now) (x .count .now) (λ j. getD (x .his .now) j 0) i _
           (λ r l. c .before .before .before .before .before .before .before .before .before .before .before .before .before .before .before .before .before .before .before .before .later-of .ensures (rival con known) r i l) R below in
