@@ -9,22 +9,31 @@ use crate::Entry;
 
 // The lowest and the highest allowed value of each header byte.
 const LOW: [u8; 28] = [
+    // letters
     b'B',
     b'L',
     b'K',
     b'1',
+    // n
+    1,
+    // Q
+    1,
+    // W
+    1,
+    // fetch, decode, commit width
     1,
     1,
     1,
+    // origin
     1,
-    1,
-    1,
-    1,
+    // spare
+    0,
+    // block number
     0,
     0,
     0,
     0,
-    0,
+    // spare
     0,
     0,
     0,
@@ -40,22 +49,31 @@ const LOW: [u8; 28] = [
 ];
 
 const HIGH: [u8; 28] = [
+    // letters
     b'B',
     b'L',
     b'K',
     b'1',
+    // n
     60,
+    // Q
     16,
+    // W
     32,
+    // fetch, decode, commit width
     4,
     4,
     4,
+    // origin
     2,
+    // spare
     0,
+    // block number
     255,
     255,
     255,
     255,
+    // spare
     0,
     0,
     0,
