@@ -1,5 +1,5 @@
--- Lists by index: a table, pieces joined, a part put in place, the first number at which a test holds, what is in a list, the numbers at which a
--- test holds, a list built in order.
+-- Lists by index: a table, pieces joined, a part put in place, the first number at which a test holds, what is in a list, the
+-- numbers at which a test holds, a list built in order.
 use Prim.Native.Nat.{ℕ, zero, suc, _+_, _-_}
 use mathlib.Core.Path.{_≡_}
 use mathlib.Core.Logic.{_⊎_}

@@ -9,7 +9,8 @@ use Rattle.record.specs.Rules.{entryByte}
 use Rattle.record.specs.declared.Block.{Block}
 use Rattle.record.specs.declared.Entry.{Entry}
 
--- "From byte 28: 60 entries of 8 bytes. Byte 0 unit kind ..", 1 lowest latency, 2 highest, 3 register written, 4 and 5 registers read: entry i
+-- "From byte 28: 60 entries of 8 bytes. Byte 0 unit kind ..", 1 lowest latency, 2 highest, 3 register written, 4 and 5
+-- registers read: entry i
 unfoldable pub entryAt : List ℕ → ℕ → Entry
 entryAt s i = record {
   kind = entryByte s i 0;

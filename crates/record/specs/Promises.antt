@@ -13,7 +13,8 @@ pub record Reads (s : List ℕ) (r : Reading) : Type 0 where
   pub answer : meaning (r .answer) ≡ readVerdict s
   pub block : r .block ≡ readBlock s
 
--- writing the block b to an output that held o and then holds o': the answer is the verdict, and the output is the record or untouched
+-- writing the block b to an output that held o and then holds o': the answer is the verdict, and the output is the record or
+-- untouched
 pub record Writes (b : Block) (o : List ℕ) (a : Answer) (o' : List ℕ) : Type 0 where
   pub answer : meaning a ≡ writeVerdict b o
   pub output : o' ≡ written b o

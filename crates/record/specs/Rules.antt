@@ -67,7 +67,8 @@ register r = leb r 63 || eqb r 255
 unfoldable pub kind : ℕ → Bool
 kind k = leb k 3
 
--- the rule of the eight bytes x 0 to x 7 of an entry: kind; lo at least 1; hi at least lo; the register written; the two read; two zeros
+-- the rule of the eight bytes x 0 to x 7 of an entry: kind; lo at least 1; hi at least lo; the register written; the two
+-- read; two zeros
 unfoldable pub used : (ℕ → ℕ) → Bool
 used x =
     kind (x 0) && leb 1 (x 1) && leb (x 1) (x 2) && register (x 3) && register (x 4) && register (x 5) && eqb (x 6) 0 && eqb (x 7) 0
