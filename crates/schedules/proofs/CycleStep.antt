@@ -186,7 +186,8 @@ module _ (b : Block) (A : Ranges b) (lo : ℕ → ℕ) (pos : (v : ℕ) → v < 
               (omega (arith, now-before u o), started-yes (now v) u (now-long v u (omega arith)) (omega (arith, now-before u o)));
           ordered = λ u i. let o = G .ord-lt u v i in let d = m .ready .ord u i in
               started-yes (now v) u (now-long v u (omega arith)) (omega (arith, now-before u o));
-          unit = λ x. lt-ltb (length (numbersWhere 0 (b .n) working)) (units b (kindOf (instruction v))) (omega (arith, same-count, m .unit (true-T (isEX v) x)));
+          unit = λ x.
+              lt-ltb (length (numbersWhere 0 (b .n) working)) (units b (kindOf (instruction v))) (omega (arith, same-count, m .unit (true-T (isEX v) x)));
         })
 
   -- ONE CYCLE IS A STEP

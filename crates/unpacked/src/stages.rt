@@ -4,7 +4,7 @@ ghost use Prim.Native.Nat.{_+_, _*_, _≤_, _<_};
 ghost use lib.ListN.{length};
 ghost use lib.Dec.{eqb};
 ghost use Rattle.lists.specs.Lists.{pick};
-ghost use Rattle.model.specs.Nodes.{EX as stage-EX};
+ghost use Rattle.model.specs.Nodes.{EX};
 ghost use Rattle.unpacked.specs.inside.ReadyByStage.{finishBack, startBack, finishSource, readyIF, readyID, readyEX, readyCM};
 use crate::CM;
 use crate::EX;
@@ -18,7 +18,7 @@ use crate::numbers::wide;
 
 // The latency of stage g, x being that of its instruction's EX.
 pub fn latency_of(g: usize, x: u8) -> u32
-    ensures { λ r. ⌜ (r ≡ pick (eqb g stage-EX) x 1) × (r ≤ 255) ⌝ }
+    ensures { λ r. ⌜ (r ≡ pick (eqb g EX) x 1) × (r ≤ 255) ⌝ }
 {
     match g {
         EX => small(x),
