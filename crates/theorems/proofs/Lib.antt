@@ -6,6 +6,7 @@ pub mod PlaysInside
 pub mod TablesWithin
 pub mod ResultBytes
 pub mod OutcomesInside
+pub mod Stepping
 pub mod LongestLatencies
 pub mod Demand
 pub mod Assessor
