@@ -7,6 +7,7 @@ pub mod TablesWithin
 pub mod ResultBytes
 pub mod OutcomesInside
 pub mod Stepping
+pub mod RecordTimes
 pub mod LongestLatencies
 pub mod Demand
 pub mod Assessor
