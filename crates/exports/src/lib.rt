@@ -1,58 +1,112 @@
-// The bench's operations for a program in C or Rust: numbers and byte slices alone.
+// The bench's operations for a program in C or Rust, from a record's bytes on: numbers and slices alone. Each hands back a
+// refusal as number × 65536 + place, and 0 where it accepts; at a refusal nothing is written.
 ghost use mathlib.Core.Path.{_≡_};
-ghost use lib.ListN.{getD};
-ghost use Rattle.record.specs.Layout.{noEntry};
-ghost use Rattle.record.specs.Refusals.{meaning, verdict, readBlock, writeVerdict, written};
-ghost use Rattle.analysis.specs.Result.{analyseTests, analysed};
-ghost use Rattle.play.specs.Refusals.{playTests};
-ghost use Rattle.play.specs.Promises.{played};
+ghost use Prim.Native.Nat.{_<_};
+ghost use Rattle.record.specs.Refusals.{meaning};
+ghost use Rattle.exports.specs.Doors.{coded, ChecksBytes, RecodesBytes, AnalysesBytes, WindowsBytes, PlaysBytes, PlayLengthOfBytes};
 use record::Answer;
 
-fn number(a: Answer) -> u8
-    ensures { λ r. ⌜ r ≡ meaning a .0 ⌝ }
+// A refusal's number and place as one number.
+fn one_number(a: Answer) -> u32
+    requires { ⌜ meaning a .1 < 65536 ⌝ }
+    ensures { λ r. ⌜ r ≡ coded (meaning a) ⌝ }
 {
     match a {
         Answer::Accepted => 0,
-        Answer::Refused(r) => record::number_of(r),
+        Answer::Refused(r) => {
+            let number = record::number_of(r);
+            let place = record::place_of(r);
+            number as u32 * 65536 + place as u32
+        }
     }
 }
 
-// Reads a record and gives the highest latency of entry i: 0 at a refusal and from 60 on.
+// Tests a record.
 #[no_mangle]
-pub extern "C" fn bench_read(s: &[u8], i: usize) -> u8
-    ensures { λ r. ⌜ r ≡ getD (readBlock (now (s .entry)) .entries) i noEntry .hi ⌝ }
+pub extern "C" fn bench_check(s: &[u8]) -> u32
+    ensures { λ r. ⌜ ChecksBytes (now (s .entry)) r ⌝ }
 {
     let r = record::read(s);
-    let b = r.block;
-    if i < 60 { b.entries[i].hi } else { 0 }
+    let answer = r.answer;
+    one_number(answer)
 }
 
-// Reads a record and writes what it read, with the number of the writer's answer.
+// Reads a record and writes the record of what it read, to 512 bytes.
 #[no_mangle]
-pub extern "C" fn bench_recode(s: &[u8], out: &mut [u8]) -> u8
-    ensures { λ r. ⌜ (r ≡ writeVerdict (readBlock (now (s .entry))) (now (out .entry)) .0) × (now (out .exit) ≡ written (readBlock (now (s .entry))) (now (out .entry))) ⌝ }
+pub extern "C" fn bench_recode(s: &[u8], out: &mut [u8]) -> u32
+    ensures { λ r. ⌜ RecodesBytes (now (s .entry)) (now (out .entry)) r (now (out .exit)) ⌝ }
 {
     let r = record::read(s);
+    let answer = r.answer;
     let b = r.block;
-    number(record::write(b, out))
+    match answer {
+        Answer::Refused(_) => one_number(answer),
+        Answer::Accepted => one_number(record::write(b, out)),
+    }
 }
 
-// Reads a record and writes the result record of what it read, with the number of the analysis' answer.
+// Reads a record and writes the result record of what it read, to 512 bytes.
 #[no_mangle]
-pub extern "C" fn bench_analyse(s: &[u8], out: &mut [u8]) -> u8
-    ensures { λ r. ⌜ (r ≡ verdict (analyseTests (readBlock (now (s .entry))) (now (out .entry))) .0) × (now (out .exit) ≡ analysed (readBlock (now (s .entry))) (now (out .entry))) ⌝ }
+pub extern "C" fn bench_analyse(s: &[u8], out: &mut [u8]) -> u32
+    ensures { λ r. ⌜ AnalysesBytes (now (s .entry)) (now (out .entry)) r (now (out .exit)) ⌝ }
 {
     let r = record::read(s);
+    let answer = r.answer;
     let b = r.block;
-    number(analysis::analyse(b, out))
+    match answer {
+        Answer::Refused(_) => one_number(answer),
+        Answer::Accepted => one_number(analysis::analyse(b, out)),
+    }
 }
 
-// Reads a record and writes the play table of what it read, with the number of the play's answer.
+// Reads a record and writes the window table of what it read, to at least 30 n numbers.
 #[no_mangle]
-pub extern "C" fn bench_play(s: &[u8], lat: &[u8], out: &mut [u16]) -> u8
-    ensures { λ r. ⌜ (r ≡ verdict (playTests (readBlock (now (s .entry))) (now (lat .entry)) (now (out .entry))) .0) × (now (out .exit) ≡ played (readBlock (now (s .entry))) (now (lat .entry)) (now (out .entry))) ⌝ }
+pub extern "C" fn bench_windows(s: &[u8], out: &mut [u16]) -> u32
+    ensures { λ r. ⌜ WindowsBytes (now (s .entry)) (now (out .entry)) r (now (out .exit)) ⌝ }
 {
     let r = record::read(s);
+    let answer = r.answer;
     let b = r.block;
-    number(play::play(b, lat, out))
+    match answer {
+        Answer::Refused(_) => one_number(answer),
+        Answer::Accepted => one_number(analysis::windows(b, out)),
+    }
+}
+
+// Reads a record and writes the play table of what it read under the latencies of a list, to at least 15 n numbers.
+#[no_mangle]
+pub extern "C" fn bench_play(s: &[u8], lat: &[u8], out: &mut [u16]) -> u32
+    ensures { λ r. ⌜ PlaysBytes (now (s .entry)) (now (lat .entry)) (now (out .entry)) r (now (out .exit)) ⌝ }
+{
+    let r = record::read(s);
+    let answer = r.answer;
+    let b = r.block;
+    match answer {
+        Answer::Refused(_) => one_number(answer),
+        Answer::Accepted => one_number(play::play(b, lat, out)),
+    }
+}
+
+// Reads a record and writes the length of the play of what it read under the latencies of a list, to one number.
+#[no_mangle]
+pub extern "C" fn bench_play_length(s: &[u8], lat: &[u8], out: &mut u16) -> u32
+    ensures { λ r. ⌜ PlayLengthOfBytes (now (s .entry)) (now (lat .entry)) (now (out .entry)) r (now (out .exit)) ⌝ }
+{
+    let r = record::read(s);
+    let answer = r.answer;
+    let b = r.block;
+    match answer {
+        Answer::Refused(_) => one_number(answer),
+        Answer::Accepted => {
+            let l = play::play_length(b, lat);
+            let lent = l.answer;
+            match lent {
+                Answer::Refused(_) => one_number(lent),
+                Answer::Accepted => {
+                    *out = l.cycles;
+                    0
+                }
+            }
+        }
+    }
 }

@@ -11,3 +11,4 @@ pub mod NumbersWhereGrowth
 pub mod Fronts
 pub mod Elements
 pub mod BufferFill
+pub mod OneOutcome

@@ -44,3 +44,9 @@ bytes-little (suc w) s i u zero h = rw add-zero (omega (arith, u i))
 bytes-little (suc w) s i u (suc k) h =
     let e : (getD s i 0 + 256 * little w s (i + 1)) / 256 ≡ little w s (i + 1) = omega (arith, u i) in
     rw e (bytes-little w s (i + 1) u k (omega arith) ∙ ap (λ n. getD s n 0) (next i k))
+
+-- the number of w bytes
+pub little-below : (w : ℕ) (s : List ℕ) (i : ℕ) → ((k : ℕ) → getD s k 0 < 256) → little w s i < 256 ^ w
+unfolding little
+little-below zero s i u = omega (arith, pow-zero 256)
+little-below (suc w) s i u = rw pow-suc (omega (arith, u i, little-below w s (i + 1) u))

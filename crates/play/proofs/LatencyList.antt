@@ -1,16 +1,16 @@
 -- A latency list: its verdict by the first test that fails, and what an accepted one is. Assumes nothing.
-use Prim.Native.Nat.{ℕ, _≤_, _<_}
+use Prim.Native.Nat.{ℕ, _*_, _≤_, _<_}
 use mathlib.Core.Path.{_≡_, ap, _∙_}
 use mathlib.Core.Bool.{not}
 use mathlib.Core.List.{List, [], _∷_}
 use native.Mathlib.Omega.{arith}
 use lib.ListN.{length, getD}
-use lib.Dec.{ltb}
-use borrow.Author.Tests.{eq-eqb, ne-eqb, eqb-true, ltb-false, not-false}
+use lib.Dec.{leb, ltb}
+use borrow.Author.Tests.{eq-eqb, ne-eqb, eqb-true, le-leb, lt-leb, ltb-false, not-false}
 use Rattle.lists.specs.Lists.{least}
 use Rattle.lists.proofs.Least.{least-below}
 use Rattle.lists.proofs.Bools.{or-left, or-right}
-use Rattle.record.specs.Refusals.{verdict}
+use Rattle.record.specs.Refusals.{verdict, outputTest}
 use Rattle.record.specs.declared.Block.{Block}
 use Rattle.record.proofs.Verdicts.{none, refuse, pass, passed, refuse-firstFault, pass-firstFault, passed-firstFault}
 use Rattle.record.proofs.AcceptedRanges.{Ranges}
@@ -37,6 +37,16 @@ module _ (b : Block) (l : List ℕ) where
   pub list-none : length l ≡ b .n → b .n ≤ least 0 (b .n) (wrong b l) → verdict (listTests b l) ≡ (0, 0)
   unfolding latencyTest
   list-none e h = past-length e ∙ pass-firstFault 8 0 (b .n) (wrong b l) [] h ∙ none
+
+-- ---- after the test of an output with room for k numbers
+module _ (b : Block) (l : List ℕ) (k : ℕ) where
+  pub room-short : k < 15 * b .n → verdict (outputTest (leb (15 * b .n) k) ∷ listTests b l) ≡ (6, 0)
+  unfolding outputTest
+  room-short h = refuse (outputTest (leb (15 * b .n) k)) _ (ap not (lt-leb (15 * b .n) k h))
+
+  pub room-right : 15 * b .n ≤ k → verdict (outputTest (leb (15 * b .n) k) ∷ listTests b l) ≡ verdict (listTests b l)
+  unfolding outputTest
+  room-right h = pass (outputTest (leb (15 * b .n) k)) _ (ap not (le-leb (15 * b .n) k h))
 
 -- ---- an accepted one
 module _ (b : Block) (l : List ℕ) (z : verdict (listTests b l) ≡ (0, 0)) where

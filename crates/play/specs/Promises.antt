@@ -5,6 +5,7 @@ use Prim.Native.Nat.{ℕ, _*_}
 use lib.ListN.{drop}
 use Rattle.lists.specs.Lists.{pick}
 use Rattle.record.specs.Refusals.{meaning, verdict, accepts}
+use Rattle.record.specs.Promises.{Whole}
 use Rattle.record.specs.declared.Answer.{Answer}
 use Rattle.record.specs.declared.Block.{Block}
 use Rattle.model.specs.Nodes.{chosen}
@@ -33,16 +34,19 @@ playLengthGiven b l = pick (accepts (verdict (lengthTests b l))) (playLength b (
 -- one cycle of the block b with the latencies l from the state p: the answer is the verdict, and the state is the next or
 -- the very one
 pub record PlaysCycle (b : Block) (l : List ℕ) (p : PlayState) (r : Step) : Type 0 where
+  pub whole : Whole b
   pub answer : meaning (r .answer) ≡ verdict (cycleTests b l (stateOf p))
   pub state : stateOf (r .state) ≡ stepped b l (stateOf p)
 
 -- playing to an output that held o and then holds o': the answer is the verdict, and the output has the play table or is
 -- untouched
 pub record Plays (b : Block) (l o : List ℕ) (a : Answer) (o' : List ℕ) : Type 0 where
+  pub whole : Whole b
   pub answer : meaning a ≡ verdict (playTests b l o)
   pub output : o' ≡ played b l o
 
 -- asking for the length
 pub record GivesPlayLength (b : Block) (l : List ℕ) (r : PlayLength) : Type 0 where
+  pub whole : Whole b
   pub answer : meaning (r .answer) ≡ verdict (lengthTests b l)
   pub cycles : r .cycles ≡ playLengthGiven b l

@@ -5,6 +5,7 @@ ghost use mathlib.Core.List.{_++_};
 ghost use Prim.Native.Nat.{ℕ, _*_, _≤_, _<_};
 ghost use lib.ListN.{length, drop};
 ghost use Rattle.record.specs.Refusals.{meaning, blockVerdict, verdict};
+ghost use Rattle.record.specs.Promises.{Whole};
 ghost use Rattle.model.specs.Nodes.{nodes, chosen};
 ghost use Rattle.model.specs.Cycles.{finish, firstState, cycle, play, playTable, unfit};
 ghost use Rattle.play.specs.Refusals.{listTests, lengthTests};
@@ -14,7 +15,7 @@ use crate::PlayState;
 use crate::Step;
 use crate::nodes::cycle_into;
 use crate::play_table::put_play;
-use crate::refusals::list_answer;
+use crate::refusals::lent_answer;
 use crate::refusals::unfit_state;
 use crate::whole_play::run;
 use record::Answer;
@@ -63,12 +64,9 @@ pub fn play(b: Block, lat: &[u8], out: &mut [u16]) -> Answer
     match answer {
         Answer::Refused(_) => answer,
         Answer::Accepted => {
-            if out.len() < 15 * (b.n as usize) {
-                return Answer::Refused(Reason::Output);
-            }
-            let listed = list_answer(b, lat);
-            match listed {
-                Answer::Refused(_) => listed,
+            let lent = lent_answer(b, lat, out.len());
+            match lent {
+                Answer::Refused(_) => lent,
                 Answer::Accepted => {
                     table_into(b, lat, out);
                     Answer::Accepted
@@ -78,14 +76,14 @@ pub fn play(b: Block, lat: &[u8], out: &mut [u16]) -> Answer
     }
 }
 
-// Tests 4, 5, 7 and 8.
+// Tests 4, 5, 7 and 8: for the output's there is room enough, since no block needs more than 900 numbers.
 fn both_answer(b: Block, lat: &[u8]) -> Answer
-    ensures { λ r. ⌜ meaning r ≡ verdict (lengthTests b (now (lat .entry))) ⌝ }
+    ensures { λ r. ⌜ (meaning r ≡ verdict (lengthTests b (now (lat .entry)))) × Whole b ⌝ }
 {
     let answer = record::block_answer(b);
     match answer {
         Answer::Refused(_) => answer,
-        Answer::Accepted => list_answer(b, lat),
+        Answer::Accepted => lent_answer(b, lat, 900),
     }
 }
 

@@ -1,11 +1,12 @@
-// Tests 7, 8 and 9.
+// Tests 6 to 9.
 ghost use mathlib.Core.Path.{_≡_};
 ghost use mathlib.Core.Bool.{_||_};
-ghost use Prim.Native.Nat.{_≤_};
+ghost use mathlib.Core.List.{_∷_};
+ghost use Prim.Native.Nat.{_*_, _≤_};
 ghost use lib.ListN.{length};
-ghost use lib.Dec.{ltb};
+ghost use lib.Dec.{leb, ltb};
 ghost use Rattle.lists.specs.Lists.{least};
-ghost use Rattle.record.specs.Refusals.{meaning, verdict};
+ghost use Rattle.record.specs.Refusals.{meaning, verdict, outputTest};
 ghost use Rattle.record.specs.declared.Block.{Block};
 ghost use Rattle.model.specs.Cycles.{unfit};
 ghost use Rattle.play.specs.Refusals.{wrong, listTests};
@@ -38,12 +39,16 @@ fn latency_fault(b: Block, lat: &[u8]) -> usize
     n
 }
 
-// Tests 7 and 8.
-pub fn list_answer(b: Block, lat: &[u8]) -> Answer
+// Tests 6, 7 and 8, of an output with room for so many numbers.
+pub fn lent_answer(b: Block, lat: &[u8], room: usize) -> Answer
     requires { ⌜ b .n ≤ 60 ⌝ }
-    ensures { λ r. ⌜ meaning r ≡ verdict (listTests b (now (lat .entry))) ⌝ }
+    ensures { λ r. ⌜ meaning r ≡ verdict (outputTest (leb (15 * b .n) room) ∷ listTests b (now (lat .entry))) ⌝ }
 {
     let n = b.n as usize;
+    let need = 15 * n;
+    if room < need {
+        return Answer::Refused(Reason::Output);
+    }
     if lat.len() != n {
         return Answer::Refused(Reason::Latencies);
     }

@@ -7,3 +7,4 @@ pub mod OutputVerdicts
 pub mod AcceptedRanges
 pub mod RoundTrips
 pub mod Examples
+pub mod BlockValues

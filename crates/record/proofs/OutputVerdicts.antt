@@ -18,7 +18,7 @@ use Rattle.record.specs.Check.{checkOf}
 use Rattle.record.specs.Rules.{headerTable, lows, highs, outside, broken}
 use Rattle.record.specs.Layout.{noEntry, headBytes, entryBytes, entriesBytes, body, encoded}
 use Rattle.record.specs.Refusals.{Test, numberOf, meaning, verdict, headerTest, entryTest, outputTest, blockTests, writeTests, blockVerdict, writeVerdict, accepts, written}
-use Rattle.record.specs.Promises.{Writes}
+use Rattle.record.specs.Promises.{Whole, Writes}
 use Rattle.record.specs.declared.Answer.{Answer}
 use Rattle.record.specs.declared.Answer.the-variants.{Accepted, Refused}
 use Rattle.record.specs.declared.Block.{Block}
@@ -124,10 +124,10 @@ module _ (b : Block) (right : Bool) where
         record { answer = sym f; output = rw f e }
 
 -- ---- the outcome of a write
-module _ (b : Block) (o : List ℕ) where
+module _ (b : Block) (o : List ℕ) (w : Whole b) where
   written-so : (a : Answer) (p : List ℕ) → Outcome b (eqb (length o) 512) (encoded b) o a p → Writes b o a p
   unfolding writeTests written
-  written-so a p x = record { answer = x .answer; output = x .output }
+  written-so a p x = record { whole = w; answer = x .answer; output = x .output }
 
   pub write-refused : (r : Reason) (a : Answer) → a ≡ Refused r → meaning a ≡ blockVerdict b → Writes b o a o
   write-refused r a e h = written-so a o (put-refused b _ _ o r a e h)
@@ -138,10 +138,10 @@ module _ (b : Block) (o : List ℕ) where
   pub write-done : blockVerdict b ≡ (0, 0) → length o ≡ 512 → (p : List ℕ) → p ≡ encoded b → Writes b o Accepted p
   write-done z h p e = written-so _ p (put-done b _ _ o z (eq-eqb (length o) 512 h) p e)
 
-  -- what an accepted write is
-  pub write-fine : writeVerdict b o ≡ (0, 0) → (blockVerdict b ≡ (0, 0)) × (length o ≡ 512)
-  unfolding writeTests
-  write-fine z = let f = put-fine b _ z in (f .0, eqb-true _ _ (f .1))
+-- what an accepted write is
+pub write-fine : (b : Block) (o : List ℕ) → writeVerdict b o ≡ (0, 0) → (blockVerdict b ≡ (0, 0)) × (length o ≡ 512)
+unfolding writeTests
+write-fine b o z = let f = put-fine b _ z in (f .0, eqb-true _ _ (f .1))
 
 -- ---- the output piece by piece
 

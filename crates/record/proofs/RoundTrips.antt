@@ -1,5 +1,5 @@
 -- Reading and writing undo each other. Assumes nothing.
-use mathlib.Core.Path.{_≡_, refl, sym, ap, _∙_}
+use mathlib.Core.Path.{_≡_, refl, sym, _∙_}
 use mathlib.Core.Bool.{true, false}
 use mathlib.Core.List.{List}
 use Prim.Native.Nat.{ℕ, _+_, _-_, _/_, _%_, _≤_, _<_}
@@ -19,7 +19,7 @@ use Rattle.record.specs.Check.{checkOf}
 use Rattle.record.specs.Rules.{headerTable, lows, highs, outside, at, entryByte, rule, broken}
 use Rattle.record.specs.Layout.{noEntry, entryAt, decoded, headBytes, entryBytes, body, encoded}
 use Rattle.record.specs.inside.EntryBytes.{byteOf}
-use Rattle.record.specs.Refusals.{meaning, readVerdict, blockVerdict, writeVerdict, readBlock, written}
+use Rattle.record.specs.Refusals.{readVerdict, blockVerdict, writeVerdict, readBlock, written}
 use Rattle.record.specs.Promises.{Reads, Writes, ByteString, Whole}
 use Rattle.record.specs.declared.Answer.{Answer}
 use Rattle.record.specs.declared.Answer.the-variants.{Accepted}
@@ -28,9 +28,9 @@ use Rattle.record.specs.declared.Reading.{Reading}
 use Rattle.record.proofs.CheckByWord.{check-ext}
 use Rattle.record.proofs.EntryRules.{last-two}
 use Rattle.record.proofs.RecordBytes.{length-encoded, head-byte, entry-byte, check-same, check-byte, check-stored, outside-head}
-use Rattle.record.proofs.Verdicts.{Fine, fine, read-fine}
+use Rattle.record.proofs.Verdicts.{Fine, fine, read-fine as verdict-fine}
 use Rattle.record.proofs.OutputVerdicts.{head-walk, block-none, block-fine, write-fine, write-done}
-use Rattle.record.proofs.Answers.{meaning-one, write-one}
+use Rattle.record.proofs.Answers.{meaning-one, accepted-so, write-one}
 
 -- ---- from a block to its record and back
 module _ (b : Block) where
@@ -79,7 +79,7 @@ module _ (b : Block) where
       let same : least 0 28 (outside (headBytes b)) ≡ least 0 28 (outside (encoded b))
       = least-ext 0 28 (outside (headBytes b)) (outside (encoded b)) (λ k _ h. outside-head b k h) in
       let r : readVerdict (encoded b) ≡ (0, 0)
-      = read-fine (encoded b) (length-encoded b) (check-same b ∙ sym (check-stored b)) (least 0 28 (outside (encoded b))) refl (omega (arith, same, head-walk b, f .0)) (f .1) in
+      = verdict-fine (encoded b) (length-encoded b) (check-same b ∙ sym (check-stored b)) (least 0 28 (outside (encoded b))) refl (omega (arith, same, head-walk b, f .0)) (f .1) in
       (r, rw r (decoded-encoded v))
 
 -- ---- from a record to its block and back
@@ -169,23 +169,30 @@ written-is : (b : Block) (o : List ℕ) → writeVerdict b o ≡ (0, 0) → writ
 unfolding written
 written-is b o z = rw z refl
 
-read-is : (s : List ℕ) → readVerdict s ≡ (0, 0) → readBlock s ≡ decoded s
-unfolding readBlock
-read-is s z = rw z refl
+-- what an accepted reading gives: the bytes are accepted, the block is theirs, and it is accepted too
+module _ (s : List ℕ) (r : Reading) (x : Reads s r) (e : r .answer ≡ Accepted) where
+  pub read-fine : readVerdict s ≡ (0, 0)
+  read-fine = accepted-so (r .answer) e (x .answer)
+
+  pub read-decoded : r .block ≡ decoded s
+  unfolding readBlock
+  read-decoded = x .block ∙ (rw read-fine refl)
+
+  pub read-accepted : blockVerdict (decoded s) ≡ (0, 0)
+  read-accepted = block-decoded s (x .bytes) (fine s read-fine)
 
 -- whatever writing an accepted block leaves in the output, reading it accepts and gives the block back
-pub read-written : (b : Block) (o p : List ℕ) (a : Answer) (r : Reading) → Whole b → Writes b o a p → a ≡ Accepted → Reads p r → (r .answer ≡ Accepted) × (r .block ≡ b)
-read-written b o p a r v w e x =
-    let z : writeVerdict b o ≡ (0, 0) = sym (w .answer) ∙ ap meaning e in
+pub read-written : (b : Block) (o p : List ℕ) (a : Answer) (r : Reading) → Writes b o a p → a ≡ Accepted → Reads p r → (r .answer ≡ Accepted) × (r .block ≡ b)
+read-written b o p a r w e x =
+    let z : writeVerdict b o ≡ (0, 0) = accepted-so a e (w .answer) in
     let q : p ≡ encoded b = w .output ∙ written-is b o z in
-    let t = read-encoded b v (write-fine b o z .0) in
+    let t = read-encoded b (w .whole) (write-fine b o z .0) in
     (meaning-one (r .answer) Accepted (x .answer ∙ rw q (t .0)), x .block ∙ rw q (t .1))
 
 -- whatever reading an accepted byte string gives, writing it to 512 bytes accepts and gives the byte string back
-pub written-read : (s o p : List ℕ) (a : Answer) (r : Reading) → ByteString s → Reads s r → r .answer ≡ Accepted → length o ≡ 512 → Writes (r .block) o a p → (a ≡ Accepted) × (p ≡ s)
-written-read s o p a r u x e l w =
-    let z : readVerdict s ≡ (0, 0) = sym (x .answer) ∙ ap meaning e in
-    let q : r .block ≡ decoded s = x .block ∙ read-is s z in
-    let f = fine s z in
-    let d = write-done (decoded s) o (block-decoded s u f) l s (sym (encoded-decoded s u f)) in
-    write-one (decoded s) o a Accepted p s (rw q at w) d
+pub written-read : (s o p : List ℕ) (a : Answer) (r : Reading) → Reads s r → r .answer ≡ Accepted → length o ≡ 512 → Writes (r .block) o a p → (a ≡ Accepted) × (p ≡ s)
+written-read s o p a r x e l w =
+    let v : Writes (decoded s) o a p = rw (read-decoded s r x e) at w in
+    let same = encoded-decoded s (x .bytes) (fine s (read-fine s r x e)) in
+    let d = write-done (decoded s) o (v .whole) (read-accepted s r x e) l s (sym same) in
+    write-one (decoded s) o a Accepted p s v d

@@ -13,7 +13,7 @@ use Rattle.lists.proofs.Bools.{by-test, and-left, and-right}
 use Rattle.lists.proofs.Least.{least-front, least-front-none, least-back}
 use Rattle.record.specs.Check.{checkOf}
 use Rattle.record.specs.Rules.{outside, broken}
-use Rattle.record.specs.Refusals.{Test, firstFault, verdict, lengthTest, checkTest, lettersTest, headerTest, entryTest, readTests, readVerdict}
+use Rattle.record.specs.Refusals.{Test, test, firstFault, verdict, lengthTest, checkTest, lettersTest, headerTest, entryTest, readTests, readVerdict}
 
 -- ---- a list of tests
 pub none : verdict [] ≡ (0, 0)
@@ -49,6 +49,20 @@ module _ (k a b : ℕ) (p : ℕ → Bool) (ts : List Test) where
 
   pub passed-firstFault : 0 < k → verdict (firstFault k a b p ∷ ts) ≡ (0, 0) → (b ≤ least a b p) × (verdict ts ≡ (0, 0))
   passed-firstFault h e = let q = passed (firstFault k a b p) ts h e in (ltb-false (least a b p) b (q .0), q .1)
+
+-- a place is below x where that of each test is
+pub place-none : (x : ℕ) → 0 < x → verdict [] .1 < x
+unfolding verdict
+place-none x h = h
+
+pub place-zero : (x k : ℕ) (g : Bool) (ts : List Test) → 0 < x → verdict ts .1 < x → verdict (test k g 0 ∷ ts) .1 < x
+unfolding verdict
+place-zero x k g ts h r = by-test g (λ e. rw e h) (λ e. rw e r)
+
+pub place-firstFault : (x k a b : ℕ) (p : ℕ → Bool) (ts : List Test) → b ≤ x → verdict ts .1 < x → verdict (firstFault k a b p ∷ ts) .1 < x
+unfolding verdict
+place-firstFault x k a b p ts h r =
+    by-test (ltb (least a b p) b) (λ e. rw e (omega (arith, ltb-true (least a b p) b e))) (λ e. rw e r)
 
 -- tests after others, where those are numbered from 1
 abbrev pub numbered : List Test → Bool
@@ -128,6 +142,15 @@ module _ (s : List ℕ) (l : length s ≡ 512) (k : checkOf s ≡ little 4 s 508
   pub read-fine : 28 ≤ h → 60 ≤ least 0 60 (broken s) → readVerdict s ≡ (0, 0)
   unfolding readTests entryTest
   read-fine a b = past-header a _ ∙ pass-firstFault 5 0 60 (broken s) [] b ∙ none
+
+-- its place is below 60, whatever tests come after
+pub read-place : (s : List ℕ) (x : ℕ) (ts : List Test) → 60 ≤ x → verdict ts .1 < x → verdict (readTests s ++ ts) .1 < x
+unfolding readTests lengthTest checkTest lettersTest headerTest entryTest
+read-place s x ts h r =
+    let some : 0 < x = omega arith in
+    let entries = place-firstFault x 5 0 60 (broken s) ts h r in
+    let header = place-firstFault x 4 4 28 (outside s) _ (omega arith) entries in
+    place-zero x 1 _ _ some (place-zero x 2 _ _ some (place-zero x 3 _ _ some header))
 
 -- what an accepted byte string is
 pub record Fine (s : List ℕ) : Type 0 where

@@ -6,8 +6,7 @@ ghost use lib.ListN.{length, drop};
 ghost use Rattle.lists.specs.Lists.{least, put};
 ghost use Rattle.record.specs.Rules.{broken};
 ghost use Rattle.record.specs.Layout.{headBytes, entryBytes, entriesBytes, encoded};
-ghost use Rattle.record.specs.Refusals.{meaning, blockVerdict};
-ghost use Rattle.record.specs.Promises.{Writes};
+ghost use Rattle.record.specs.Promises.{Whole, TestsBlock, Writes};
 use crate::Answer;
 use crate::Block;
 use crate::Entry;
@@ -23,11 +22,12 @@ use crate::check::seal;
 use crate::rules::entry_ok;
 use crate::rules::header_fault;
 
+// The header's bytes; and what every block value is.
 fn head_bytes(b: Block) -> [u8; 28]
-    ensures { λ r. ⌜ r ≡ headBytes b ⌝ }
+    ensures { λ r. ⌜ (r ≡ headBytes b) × Whole b ⌝ }
 {
     let x = b.number;
-    let y = x / 256;
+    let y = b.number / 256;
     let z = y / 256;
     let u = z / 256;
     let x0 = (x % 256) as u8;
@@ -82,8 +82,8 @@ fn block_entry_fault(b: Block) -> usize
 
 // The tests of a block value whose header bytes are known.
 fn tested(b: Block, head: &[u8]) -> Answer
-    requires { ⌜ now head ≡ headBytes b ⌝ }
-    ensures { λ r. ⌜ meaning r ≡ blockVerdict b ⌝ }
+    requires { ⌜ (now head ≡ headBytes b) × Whole b ⌝ }
+    ensures { λ r. ⌜ TestsBlock b r ⌝ }
 {
     let h = header_fault(head);
     if h < 28 {
@@ -98,7 +98,7 @@ fn tested(b: Block, head: &[u8]) -> Answer
 
 // Tests a block value, as the writer does and every other operation that takes one.
 pub fn block_answer(b: Block) -> Answer
-    ensures { λ r. ⌜ meaning r ≡ blockVerdict b ⌝ }
+    ensures { λ r. ⌜ TestsBlock b r ⌝ }
 {
     let head = head_bytes(b);
     tested(b, &head)

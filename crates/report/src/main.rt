@@ -8,6 +8,15 @@ fn complain(what: &[u8]) {
     io::write_all(STDERR_FILENO, what);
 }
 
+// Writes a text. Says so where that fails, and gives whether it was done.
+fn put(text: &[u8]) -> bool {
+    let done = io::write_all(STDOUT_FILENO, text);
+    if !done {
+        complain(b"report: the output broke off\n");
+    }
+    done
+}
+
 // Says so where the input has broken off: after a piece that came short, a read fails or gives bytes after all.
 fn end() {
     let mut byte = [0u8; 1];
@@ -27,8 +36,7 @@ fn piece_on(piece: u32) -> bool {
     let got = io::read_full(STDIN_FILENO, &mut bytes);
     let mut text = room();
     let n = report_lines::lines_into(&bytes[..got], piece, &mut text);
-    if !io::write_all(STDOUT_FILENO, &text[..n]) {
-        complain(b"report: the output broke off\n");
+    if !put(&text[..n]) {
         return false;
     }
     if got < 65536 {
@@ -40,7 +48,9 @@ fn piece_on(piece: u32) -> bool {
 
 fn main() {
     let head = report_lines::header();
-    io::write_all(STDOUT_FILENO, &head);
+    if !put(&head) {
+        return;
+    }
     for piece in 0..u32::MAX {
         if !piece_on(piece) {
             return;

@@ -5,3 +5,4 @@ pub mod ResultCounts
 pub mod RecordLine
 pub mod ArchiveRecords
 pub mod ArchivePieces
+pub mod Outcomes

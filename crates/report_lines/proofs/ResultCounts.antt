@@ -10,16 +10,17 @@ use Rattle.lists.specs.Sums.{sum}
 use Rattle.lists.specs.Bytes.{little, bytes}
 use Rattle.lists.proofs.Bools.{by-test}
 use Rattle.record.specs.Refusals.{blockVerdict}
+use Rattle.record.specs.Promises.{Whole}
 use Rattle.record.specs.declared.Answer.{Answer}
 use Rattle.record.specs.declared.Block.{Block}
 use Rattle.record.proofs.AcceptedRanges.{ranges}
 use Rattle.model.specs.Paths.{has, count, contending}
 use Rattle.model.specs.Rounds.{windows, bound, roundCount, pairCount, apartCount}
+use Rattle.model.proofs.RoundsEnd.{rounds-most}
+use Rattle.model.proofs.Limits.{bound-limit}
 use Rattle.analysis.specs.Result.{headOf, resultHead, resultBody, result}
 use Rattle.analysis.specs.Promises.{Analyses}
 use Rattle.analysis.proofs.Outcomes.{analyse-done}
-use Rattle.theorems.specs.Words.{AcceptedBlock, ByteLatencies}
-use Rattle.theorems.proofs.Demand.{bound-limit, rounds-most}
 use Rattle.report_lines.specs.Text.{decimal, spaced}
 use Rattle.report_lines.specs.inside.ResultText.{countsText}
 
@@ -48,7 +49,7 @@ two-bytes : (s : List ℕ) (i x : ℕ) → x < 65536 → getD s i 0 ≡ x % 256 
 unfolding little
 two-bytes s i x h low high = omega arith
 
-module _ (b : Block) (accepted : AcceptedBlock b) (latencies : ByteLatencies b) where
+module _ (b : Block) (whole : Whole b) (accepted : blockVerdict b ≡ (0, 0)) where
   pairs-few : pairCount b < 65536
   unfolding pairCount
   pairs-few = omega (arith, count-most (b .n) (has (contending b)) (ranges b accepted .n .1))
@@ -62,7 +63,7 @@ module _ (b : Block) (accepted : AcceptedBlock b) (latencies : ByteLatencies b) 
   rounds-few = omega (arith, rounds-most b, count-most (b .n) (has (contending b)) (ranges b accepted .n .1))
 
   bound-few : bound b < 65536
-  bound-few = let l = bound-limit b accepted latencies in omega (arith, l .0, l .1)
+  bound-few = let A = ranges b accepted in omega (arith, bound-limit b A (λ i. whole .each i .hi), A .n .1)
 
   pub counts-carried : countsText (result b) ≡ spaced (decimal (bound b) ∷ decimal (roundCount b) ∷ decimal (pairCount b) ∷ decimal (apartCount b) ∷ [])
   unfolding countsText result resultBody resultHead headOf bytes
@@ -77,4 +78,4 @@ module _ (b : Block) (accepted : AcceptedBlock b) (latencies : ByteLatencies b) 
 
 -- an output of 512 bytes holds the result record after the analysis
 pub result-made : (b : Block) (o o' : List ℕ) (a : Answer) → blockVerdict b ≡ (0, 0) → length o ≡ 512 → Analyses b o a o' → o' ≡ result b
-result-made b o o' a accepted l x = x .output ∙ sym (analyse-done b o accepted l (result b) refl .output)
+result-made b o o' a accepted l x = x .output ∙ sym (analyse-done b o (x .whole) accepted l (result b) refl .output)

@@ -1,4 +1,5 @@
 pub mod Text
 pub mod Report
 pub mod ReportBlocks
+pub mod Promises
 pub mod inside

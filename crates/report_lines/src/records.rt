@@ -7,9 +7,10 @@ ghost use Rattle.io.specs.Counts.{Counts};
 ghost use Rattle.lists.specs.Lists.{put};
 ghost use Rattle.lists.specs.Bytes.{ascii, little};
 ghost use Rattle.record.specs.Refusals.{blockVerdict};
+ghost use Rattle.record.specs.Promises.{Whole};
 ghost use Rattle.analysis.specs.Result.{result};
-ghost use Rattle.theorems.specs.Words.{ByteLatencies};
 ghost use Rattle.report_lines.specs.inside.ResultText.{countsText};
+ghost use Rattle.report_lines.specs.Promises.{PutsText};
 ghost use Rattle.report_lines.specs.Report.{header as header·text, letter, blockLine, refusalLine, line, linesFrom};
 use crate::fields::number_into;
 use crate::fields::text_into;
@@ -67,10 +68,10 @@ fn counts_into(s: &[u8; 512], at: usize, out: &mut [u8]) -> usize
     number_into(two_at(s, 16), b'\n', a3, out)
 }
 
-// The result record of an accepted block.
+// The result record of an accepted block; and what every block value is.
 fn result_of(b: Block) -> [u8; 512]
     requires { ⌜ blockVerdict b ≡ (0, 0) ⌝ }
-    ensures { λ r. ⌜ r ≡ result b ⌝ }
+    ensures { λ r. ⌜ (r ≡ result b) × Whole b ⌝ }
 {
     let mut s = [0u8; 512];
     analysis::analyse(b, &mut s);
@@ -79,7 +80,7 @@ fn result_of(b: Block) -> [u8; 512]
 
 // Puts the line of an accepted block.
 fn block_into(b: Block, at: usize, out: &mut [u8]) -> usize
-    requires { ⌜ (blockVerdict b ≡ (0, 0)) × ByteLatencies b × (at + 128 ≤ length (now out)) ⌝ }
+    requires { ⌜ (blockVerdict b ≡ (0, 0)) × (at + 128 ≤ length (now out)) ⌝ }
     ensures { λ r. ⌜ (r ≡ at + length (blockLine b)) × (r ≤ at + 128) ⌝ }
     ensures { λ _. ⌜ now (out .exit) ≡ put (now (out .entry)) at (blockLine b) ⌝ }
 {
@@ -119,8 +120,7 @@ fn line_at(s: &[u8], index: u64, at: usize, out: &mut [u8]) -> usize
 
 // Puts the line of a byte string, as the record at an index, at the start of out, and gives its length.
 pub fn line_into(s: &[u8], index: u64, out: &mut [u8; 128]) -> usize
-    ensures { λ r. ⌜ r ≡ length (line index (now (s .entry))) ⌝ }
-    ensures { λ _. ⌜ now (out .exit) ≡ put (now (out .entry)) 0 (line index (now (s .entry))) ⌝ }
+    ensures { λ r. ⌜ PutsText (line index (now (s .entry))) (now (out .entry)) r (now (out .exit)) ⌝ }
     ensures { λ r. ⌜ Counts r (now (out .exit)) ⌝ }
 {
     line_at(s, index, 0, out)
@@ -152,8 +152,7 @@ fn piece_into(s: &[u8], piece: u32, out: &mut [u8; 16384]) -> usize
 // Puts the lines of the first 65,536 bytes of s at the start of out, and gives their length. Before s there are `piece`
 // pieces of 65,536 bytes, so 128 records each.
 pub fn lines_into(s: &[u8], piece: u32, out: &mut [u8; 16384]) -> usize
-    ensures { λ r. ⌜ r ≡ length (linesFrom (128 * piece) (take 65536 (now (s .entry)))) ⌝ }
-    ensures { λ _. ⌜ now (out .exit) ≡ put (now (out .entry)) 0 (linesFrom (128 * piece) (take 65536 (now (s .entry)))) ⌝ }
+    ensures { λ r. ⌜ PutsText (linesFrom (128 * piece) (take 65536 (now (s .entry)))) (now (out .entry)) r (now (out .exit)) ⌝ }
     ensures { λ r. ⌜ Counts r (now (out .exit)) ⌝ }
 {
     let n = smaller(s.len(), 65536);

@@ -1,5 +1,5 @@
 -- The play of all the highest latencies is no bound: block E, whose results are worked by hand. Assumes nothing.
-use Prim.Native.Nat.{ℕ, zero, suc}
+use Prim.Native.Nat.{ℕ, zero, suc, _≤_}
 use mathlib.Core.Path.{_≡_, refl, ap}
 use mathlib.Core.List.{List, [], _∷_}
 use native.Mathlib.Omega.{arith}
@@ -8,11 +8,13 @@ use Rattle.lists.specs.Lists.{tab, tabFrom, least, leastFrom}
 use Rattle.lists.proofs.Elements.{getD-all}
 use Rattle.record.specs.Layout.{noEntry}
 use Rattle.record.specs.Refusals.{verdict}
+use Rattle.record.specs.Promises.{ByteEntry, Whole}
+use Rattle.model.specs.Nodes.{entry}
 use Rattle.model.specs.Blocks.{blockE}
 use Rattle.model.specs.Worked.{summary, worked}
 use Rattle.model.proofs.WorkedResults.{worked-by-hand, blocks-accepted}
 use Rattle.play.specs.Refusals.{wrong, listTest, latencyTest, listTests}
-use Rattle.theorems.specs.Words.{ByteLatencies, AcceptedList, longest, AnomalyOfE}
+use Rattle.theorems.specs.Words.{AcceptedList, longest, AnomalyOfE}
 
 longest-E : longest blockE ≡ 4 ∷ 4 ∷ 4 ∷ 12 ∷ []
 unfolding longest tab tabFrom blockE
@@ -22,13 +24,33 @@ listed-E : AcceptedList blockE (1 ∷ 4 ∷ 4 ∷ 12 ∷ []) × AcceptedList blo
 unfolding verdict listTests listTest latencyTest wrong least leastFrom blockE
 listed-E = (refl, refl)
 
-bytes-E : ByteLatencies blockE
+six-bytes : (k l h x y z : ℕ) → k ≤ 255 → l ≤ 255 → h ≤ 255 → x ≤ 255 → y ≤ 255 → z ≤ 255
+    → ByteEntry (record { kind = k; lo = l; hi = h; writes = x; reads1 = y; reads2 = z })
+six-bytes k l h x y z a b c d e f = record { kind = a; lo = b; hi = c; writes = d; reads1 = e; reads2 = f }
+
+bytes-E : (i : ℕ) → ByteEntry (entry blockE i)
 unfolding blockE
-bytes-E zero = omega arith
-bytes-E (suc zero) = omega arith
-bytes-E (suc (suc zero)) = omega arith
-bytes-E (suc (suc (suc zero))) = omega arith
-bytes-E (suc (suc (suc (suc i)))) = rw (getD-all noEntry 56 i) (omega arith)
+bytes-E zero = six-bytes _ _ _ _ _ _ (omega arith) (omega arith) (omega arith) (omega arith) (omega arith) (omega arith)
+bytes-E (suc zero) = six-bytes _ _ _ _ _ _ (omega arith) (omega arith) (omega arith) (omega arith) (omega arith) (omega arith)
+bytes-E (suc (suc zero)) = six-bytes _ _ _ _ _ _ (omega arith) (omega arith) (omega arith) (omega arith) (omega arith) (omega arith)
+bytes-E (suc (suc (suc zero))) = six-bytes _ _ _ _ _ _ (omega arith) (omega arith) (omega arith) (omega arith) (omega arith) (omega arith)
+bytes-E (suc (suc (suc (suc i)))) = rw (getD-all noEntry 56 i) (six-bytes _ _ _ _ _ _ (omega arith) (omega arith) (omega arith) (omega arith) (omega arith) (omega arith))
+
+whole-E : Whole blockE
+unfolding blockE
+whole-E =
+    record {
+      n = omega arith;
+      q = omega arith;
+      w = omega arith;
+      f = omega arith;
+      d = omega arith;
+      c = omega arith;
+      origin = omega arith;
+      number = omega arith;
+      entries = refl;
+      each = bytes-E;
+    }
 
 pub worst-E : AnomalyOfE
 unfolding worked summary
@@ -36,8 +58,8 @@ worst-E =
     let first : List ℕ → ℕ = λ xs. getD xs 0 0 in
     let rows = worked-by-hand .1 .1 .1 .1 in
     record {
+      whole = whole-E;
       accepted = blocks-accepted .1 .1 .1 .1 .0;
-      bytes = bytes-E;
       longestListed = rw longest-E (listed-E .1);
       listed = listed-E .0;
       underLongest = rw longest-E (ap first (rows .1 .1 .1 .1 .1 .1 .0));

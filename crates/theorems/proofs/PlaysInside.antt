@@ -12,7 +12,7 @@ use borrow.Author.Tests.{leb-true, leb-false}
 use Rattle.lists.proofs.Bools.{by-test}
 use Rattle.record.specs.declared.Block.{Block}
 use Rattle.record.proofs.AcceptedRanges.{Ranges, ranges}
-use Rattle.model.specs.Nodes.{CM, nodes, node, instruction, lowest, highest, chosen}
+use Rattle.model.specs.Nodes.{CM, nodes, node, entry, instruction, lowest, highest, chosen}
 use Rattle.model.specs.Cycles.{State, notStarted, start, started, finish, firstState, allStarted, playOn, play, playLength, ready}
 use Rattle.model.specs.Rounds.{earliest, R, windows, bound}
 use Rattle.model.proofs.TimesInOrder.{earliest-is}
@@ -25,28 +25,28 @@ use Rattle.schedules.proofs.CycleTurns.{seen, started-yes}
 use Rattle.schedules.proofs.PlaySchedule.{each-allStarted, allStarted-more, Played, Stopped, first-played, playOn-played}
 use Rattle.schedules.proofs.PlayEnds.{play-started, play-sched}
 use Rattle.play.proofs.LatencyList.{ranged}
-use Rattle.theorems.specs.Words.{AcceptedBlock, ByteLatencies, AcceptedList, Inside, StartsInTime}
+use Rattle.theorems.specs.Words.{AcceptedBlock, AcceptedList, Inside, StartsInTime}
 use Rattle.theorems.proofs.ModelRounds.{G, earliest-early}
 use Rattle.theorems.proofs.WindowsBound.{Late, windows-bound}
 
 -- no latest start reaches 513 n
-pub late-below : (b : Block) (accepted : AcceptedBlock b) → ByteLatencies b → (v : ℕ) → v < nodes b → start (windows b .late) v < 513 * b .n
+pub late-below : (b : Block) (accepted : AcceptedBlock b) → ((i : ℕ) → entry b i .hi ≤ 255) → (v : ℕ) → v < nodes b → start (windows b .late) v < 513 * b .n
 unfolding finish
-late-below b accepted bytes v l =
+late-below b accepted cap v l =
     let A = ranges b accepted in
-    omega (arith, windows-limit b A bytes v l, lowest-some b A v l, lowest-highest b A v l)
+    omega (arith, windows-limit b A cap v l, lowest-some b A v l, lowest-highest b A v l)
 
 -- ---- any latencies from the lowest to the highest
-module _ (b : Block) (accepted : AcceptedBlock b) (bytes : ByteLatencies b) (lat : ℕ → ℕ) (fits : Fits (G b (ranges b accepted)) lat) where
+module _ (b : Block) (accepted : AcceptedBlock b) (cap : (i : ℕ) → entry b i .hi ≤ 255) (lat : ℕ → ℕ) (fits : Fits (G b (ranges b accepted)) lat) where
   abbrev A : Ranges b
   A = ranges b accepted
 
   -- the starts at the end
   sched : Sched (G b A) lat 30780 (start (play b lat))
-  sched = play-sched b accepted bytes (lowest b) (lowest-some b A) lat fits
+  sched = play-sched b accepted cap (lowest b) (lowest-some b A) lat fits
 
   begins-below : (v : ℕ) → v < nodes b → start (play b lat) v < 30780
-  begins-below = play-started b accepted bytes (lowest b) (lowest-some b A) lat fits
+  begins-below = play-started b accepted cap (lowest b) (lowest-some b A) lat fits
 
   -- a node is ready when it starts
   ready-start : (v : ℕ) → v < nodes b → ready b lat (play b lat) v ≤ start (play b lat) v
@@ -110,7 +110,7 @@ module _ (b : Block) (accepted : AcceptedBlock b) (bytes : ByteLatencies b) (lat
   last = playOn (513 * b .n) b lat firstState
 
   all-started : (v : ℕ) → v < nodes b → started (last .starts) v ≡ true
-  all-started v l = few-in-time (513 * b .n) last-few v l (late-below b accepted bytes v l)
+  all-started v l = few-in-time (513 * b .n) last-few v l (late-below b accepted cap v l)
 
   pub last-allStarted : allStarted b last ≡ true
   last-allStarted = each-allStarted b last all-started

@@ -18,6 +18,7 @@ use Rattle.record.specs.Check.{checkOf}
 use Rattle.record.specs.declared.Answer.{Answer}
 use Rattle.record.specs.declared.Answer.the-variants.{Accepted}
 use Rattle.record.specs.declared.Block.{Block}
+use Rattle.record.proofs.Answers.{accepted-so}
 use Rattle.record.proofs.AcceptedRanges.{ranges}
 use Rattle.model.specs.Nodes.{EX, CM, nodes, node, entry, highest, chosen}
 use Rattle.model.specs.Cycles.{start, finish, threeTimes}
@@ -27,7 +28,7 @@ use Rattle.model.proofs.Limits.{earliest-limit, windows-limit}
 use Rattle.analysis.specs.Result.{headOf, resultHead, fourOf, resultTimes, resultEntries, resultBody, result}
 use Rattle.analysis.specs.Promises.{Analyses}
 use Rattle.play.specs.Promises.{Plays}
-use Rattle.play.proofs.Outcomes.{accepted-so, play-fine}
+use Rattle.play.proofs.Outcomes.{play-fine}
 use Rattle.theorems.specs.Words.{AcceptedBlock, AcceptedList, Inside, TimesKept}
 use Rattle.theorems.proofs.PlaysInside.{play-inside, chosen-fits}
 use Rattle.theorems.proofs.TablesWithin.{play-kept}
@@ -96,10 +97,10 @@ module _ (b : Block) where
         ∙ little-bytes 2 (getD (fourTimes b i) k 0) (omega (arith, four-limit i k h q))
 
 -- ---- EVERY PLAY KEEPS THEM
-pub times-kept : (b : Block) (cap : (i : ℕ) → entry b i .hi ≤ 255) (l o o' : List ℕ) (a : Answer) → Analyses b o a o' → a ≡ Accepted
+pub times-kept : (b : Block) (l o o' : List ℕ) (a : Answer) → Analyses b o a o' → a ≡ Accepted
     → (q q' : List ℕ) (c : Answer) → Plays b l q c q' → c ≡ Accepted → (i : ℕ) → i < b .n → TimesKept o' q' i
 unfolding threeTimes
-times-kept b cap l o o' a x e q q' c y f i h =
+times-kept b l o o' a x e q q' c y f i h =
     let ex : node EX i < nodes b = omega arith in
     let cm : node CM i < nodes b = omega arith in
     record {
@@ -108,6 +109,9 @@ times-kept b cap l o o' a x e q q' c y f i h =
       commits = rw (carried 3 (omega arith), written (node CM i) 2 cm (omega arith)) (inside (node CM i) cm .finishIn .to);
     }
   where
+    cap : (i : ℕ) → entry b i .hi ≤ 255
+    cap i = x .whole .each i .hi
+
     fine : AcceptedBlock b × (15 * b .n ≤ length q) × AcceptedList b l
     fine = play-fine b l q (accepted-so c f (y .answer))
 

@@ -1,31 +1,21 @@
--- What a result record carries: its block's origin, number and bound; and what block values and records give to it. Assumes
--- nothing.
-use Prim.Native.Nat.{ℕ, zero, suc, _+_, _*_, _≤_, _<_}
+-- What a result record carries: its block's origin, number and bound; and what a block record gives to it. Assumes nothing.
+use Prim.Native.Nat.{ℕ, zero, suc, _+_, _<_}
 use mathlib.Core.Path.{_≡_, refl, _∙_}
 use mathlib.Core.List.{List}
 use native.Mathlib.Omega.{arith}
 use native.Mathlib.Nat.{zero-add}
-use lib.ListN.{getD, List·getD-eq-default}
-use lib.Dec.{ltb}
-use borrow.Author.Tests.{ltb-true, ltb-false}
-use Rattle.lists.specs.Lists.{tab}
+use lib.ListN.{getD}
 use Rattle.lists.specs.Bytes.{little, bytes}
-use Rattle.lists.proofs.Bools.{by-test}
-use Rattle.lists.proofs.Elements.{getD-all}
-use Rattle.lists.proofs.TableByIndex.{length-tab, getD-tab}
 use Rattle.lists.proofs.Little.{little-ext, little-bytes, bytes-little}
-use Rattle.record.specs.Layout.{noEntry, noBlock, entryAt, decoded}
-use Rattle.record.specs.Refusals.{accepts, readVerdict, readBlock}
+use Rattle.record.specs.Layout.{decoded}
 use Rattle.record.specs.Promises.{ByteString, Whole}
 use Rattle.record.specs.declared.Answer.{Answer}
 use Rattle.record.specs.declared.Answer.the-variants.{Accepted}
 use Rattle.record.specs.declared.Block.{Block}
-use Rattle.model.specs.Nodes.{entry}
 use Rattle.model.specs.Rounds.{bound}
 use Rattle.analysis.specs.Result.{headOf, resultHead, resultBody, result, analysed}
 use Rattle.analysis.specs.Promises.{Analyses}
-use Rattle.play.proofs.Outcomes.{accepted-so}
-use Rattle.theorems.specs.Words.{ByteLatencies}
+use Rattle.record.proofs.Answers.{accepted-so}
 
 -- ---- bytes of the result record
 module _ (b : Block) where
@@ -67,19 +57,3 @@ module _ (s : List ℕ) (u : ByteString s) where
   pub copied-origin : getD (result (decoded s)) 5 0 ≡ getD s 10 0
   unfolding decoded
   copied-origin = origin-byte (decoded s)
-
-  -- a block that is read has bytes for its latencies
-  entry-byte : (i : ℕ) → entry (decoded s) i .hi ≤ 255
-  unfolding decoded entryAt
-  entry-byte i =
-      by-test (ltb i 60)
-      (λ t. rw (getD-tab 60 (entryAt s) i noEntry (ltb-true i 60 t)) (omega (arith, u .byte (28 + 8 * i + 2))))
-      (λ f. rw (List·getD-eq-default (tab 60 (entryAt s)) noEntry {n = i} (omega (arith, length-tab 60 (entryAt s), ltb-false i 60 f))) (omega arith))
-
-  none-byte : (i : ℕ) → entry noBlock i .hi ≤ 255
-  unfolding noBlock
-  none-byte i = rw (getD-all noEntry 60 i) (omega arith)
-
-  pub read-bytes : ByteLatencies (readBlock s)
-  unfolding readBlock
-  read-bytes i = by-test (accepts (readVerdict s)) (λ t. rw t (entry-byte i)) (λ f. rw f (none-byte i))

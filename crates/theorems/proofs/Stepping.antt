@@ -15,13 +15,14 @@ use borrow.Author.Tests.{lt-ltb, lt-leb, ltb-true, ltb-false, eq-eqb}
 use Rattle.lists.specs.Lists.{pick}
 use Rattle.lists.proofs.Bools.{by-test}
 use Rattle.record.specs.Refusals.{verdict, blockTests, headerTest, entryTest}
+use Rattle.record.specs.Promises.{Whole}
 use Rattle.record.specs.declared.Answer.{Answer}
 use Rattle.record.specs.declared.Answer.the-variants.{Accepted}
 use Rattle.record.specs.declared.Block.{Block}
 use Rattle.record.proofs.AcceptedRanges.{ranges}
-use Rattle.record.proofs.Answers.{meaning-one}
+use Rattle.record.proofs.Answers.{meaning-one, accepted-so}
 use Rattle.record.proofs.Verdicts.{none, pass, after-accepted}
-use Rattle.model.specs.Nodes.{nodes, entry, chosen}
+use Rattle.model.specs.Nodes.{nodes, chosen}
 use Rattle.model.specs.Cycles.{State, notStarted, start, unfit, turns, cycle, firstState, allStarted, playOn, play, threeTimes}
 use Rattle.model.proofs.TableNumbers.{play-at}
 use Rattle.schedules.proofs.CycleTurns.{Known, begun as begun-turn, turns-length, turns-later, turns-below}
@@ -31,7 +32,7 @@ use Rattle.play.specs.Promises.{stateOf, stepped, PlaysCycle, Plays}
 use Rattle.play.specs.inside.NodeTurn.{unfitAt}
 use Rattle.play.specs.declared.PlayState.{PlayState}
 use Rattle.play.specs.declared.Step.{Step}
-use Rattle.play.proofs.Outcomes.{accepted-so, play-fine}
+use Rattle.play.proofs.Outcomes.{play-fine}
 use Rattle.play.proofs.QuietCycles.{turns-skip, started-stays}
 use Rattle.play.proofs.UnfitStates.{unfit-none}
 use Rattle.theorems.specs.Words.{AcceptedBlock, AcceptedList, Steps, begun, on}
@@ -181,16 +182,23 @@ module _ (b : Block) (accepted : AcceptedBlock b) (l : List ℕ) (listed : Accep
   steps-accepted k h = steps-on k (omega (arith, few))
 
 -- ---- after 513 n cycles the starts are those of the play
-pub steps-table : (b : Block) → AcceptedBlock b → ((i : ℕ) → entry b i .hi ≤ 255) → (l : List ℕ) → AcceptedList b l
-    → (p : PlayState) → Steps b l (513 * b .n) p → p .starts ≡ play b (chosen b l)
-steps-table b accepted bytes l listed p s =
-    steps-play b l (513 * b .n) p s .1 ∙ sym (last-play b accepted bytes (chosen b l) (chosen-fits b accepted l listed))
+
+-- the promise of a cycle says that the block is whole
+steps-whole : (b : Block) (l : List ℕ) {k : ℕ} {p : PlayState} → 0 < k → Steps b l k p → Whole b
+steps-whole b l h (begun e) = absurd (omega arith)
+steps-whole b l h (on s x e f) = x .whole
+
+pub steps-table : (b : Block) → AcceptedBlock b → (l : List ℕ) → AcceptedList b l → (p : PlayState) → Steps b l (513 * b .n) p → p .starts ≡ play b (chosen b l)
+steps-table b accepted l listed p s =
+    let some : 0 < 513 * b .n = omega (arith, ranges b accepted .n .0) in
+    let whole = steps-whole b l some s in
+    steps-play b l (513 * b .n) p s .1 ∙ sym (last-play b accepted (λ i. whole .each i .hi) (chosen b l) (chosen-fits b accepted l listed))
 
 -- and those that a play writes
-pub steps-written : (b : Block) → ((i : ℕ) → entry b i .hi ≤ 255) → (l o o' : List ℕ) (a : Answer) → Plays b l o a o' → a ≡ Accepted
-    → (p : PlayState) → Steps b l (513 * b .n) p → (v : ℕ) → v < nodes b → getD (p .starts) v 0 ≡ getD o' (3 * v + 1) 0
+pub steps-written : (b : Block) (l o o' : List ℕ) (a : Answer) → Plays b l o a o' → a ≡ Accepted → (p : PlayState) → Steps b l (513 * b .n) p
+    → (v : ℕ) → v < nodes b → getD (p .starts) v 0 ≡ getD o' (3 * v + 1) 0
 unfolding threeTimes
-steps-written b bytes l o o' a x e p s v h =
+steps-written b l o o' a x e p s v h =
     let fine = play-fine b l o (accepted-so a e (x .answer)) in
-    ap (λ (q : List ℕ). getD q v 0) (steps-table b (fine .0) bytes l (fine .2) p s)
+    ap (λ (q : List ℕ). getD q v 0) (steps-table b (fine .0) l (fine .2) p s)
     ∙ sym (play-kept b l o o' a x e (3 * v + 1) (omega arith) ∙ play-at b (chosen b l) v 1 h (omega arith))

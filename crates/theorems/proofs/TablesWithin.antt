@@ -9,7 +9,7 @@ use Rattle.record.specs.declared.Answer.{Answer}
 use Rattle.record.specs.declared.Answer.the-variants.{Accepted}
 use Rattle.record.specs.declared.Block.{Block}
 use Rattle.record.proofs.AcceptedRanges.{Ranges, ranges}
-use Rattle.model.specs.Nodes.{nodes, instruction, highest, chosen}
+use Rattle.model.specs.Nodes.{nodes, entry, instruction, highest, chosen}
 use Rattle.model.specs.Paths.{contending}
 use Rattle.model.specs.Cycles.{finish, ready, threeTimes, playTable}
 use Rattle.model.specs.Rounds.{R, windows, windowTable}
@@ -20,8 +20,8 @@ use Rattle.model.proofs.Limits.{earliest-limit, ready-limit, windows-limit}
 use Rattle.analysis.specs.Result.{tabled}
 use Rattle.analysis.specs.Promises.{WritesWindows}
 use Rattle.play.specs.Promises.{played, Plays}
-use Rattle.play.proofs.Outcomes.{accepted-so}
-use Rattle.theorems.specs.Words.{AcceptedBlock, ByteLatencies, Within, Inside}
+use Rattle.record.proofs.Answers.{accepted-so}
+use Rattle.theorems.specs.Words.{AcceptedBlock, Within, Inside}
 
 module _ (b : Block) where
   module _ (lat : ℕ → ℕ) where
@@ -39,22 +39,22 @@ module _ (b : Block) where
         rw (e, window-at b v k h (omega arith), window-at b v (3 + k) h (omega arith), play-at b lat v k h q) (each-within v k q i)
 
   -- ---- no number of the window table exceeds 513 n
-  module _ (accepted : AcceptedBlock b) (bytes : ByteLatencies b) where
+  module _ (accepted : AcceptedBlock b) (cap : (i : ℕ) → entry b i .hi ≤ 255) where
     abbrev A : Ranges b
     A = ranges b accepted
 
     by-settled : (v : ℕ) → v < nodes b → ready b (highest b) (windows b .late) v ≤ 513 * (instruction v + 1)
     unfolding R
-    by-settled v h = rw (windows-settled b .late) (ready-limit b A bytes (contending b) (windows b .known) v h)
+    by-settled v h = rw (windows-settled b .late) (ready-limit b A cap (contending b) (windows b .known) v h)
 
     each-few : (v k : ℕ) → v < nodes b → k < 6 → getD (six b v) k 0 ≤ 513 * b .n
     unfolding threeTimes finish
-    each-few v zero h q = omega (arith, earliest-is b A v h, earliest-limit b A bytes v h)
-    each-few v (suc zero) h q = omega (arith, earliest-limit b A bytes v h)
-    each-few v (suc (suc zero)) h q = omega (arith, earliest-limit b A bytes v h)
+    each-few v zero h q = omega (arith, earliest-is b A v h, earliest-limit b A cap v h)
+    each-few v (suc zero) h q = omega (arith, earliest-limit b A cap v h)
+    each-few v (suc (suc zero)) h q = omega (arith, earliest-limit b A cap v h)
     each-few v (suc (suc (suc zero))) h q = omega (arith, by-settled v h)
-    each-few v (suc (suc (suc (suc zero)))) h q = omega (arith, windows-limit b A bytes v h)
-    each-few v (suc (suc (suc (suc (suc zero))))) h q = omega (arith, windows-limit b A bytes v h)
+    each-few v (suc (suc (suc (suc zero)))) h q = omega (arith, windows-limit b A cap v h)
+    each-few v (suc (suc (suc (suc (suc zero))))) h q = omega (arith, windows-limit b A cap v h)
     each-few v (suc (suc (suc (suc (suc (suc k)))))) h q = absurd (omega arith)
 
     pub table-few : (k : ℕ) → k < 30 * b .n → getD (windowTable b) k 0 ≤ 513 * b .n

@@ -8,6 +8,7 @@ use lib.ListN.{getD}
 use Rattle.lists.specs.Lists.{tab}
 use Rattle.lists.specs.Bytes.{little}
 use Rattle.record.specs.Refusals.{verdict, blockVerdict}
+use Rattle.record.specs.Promises.{Whole}
 use Rattle.record.specs.declared.Answer.the-variants.{Accepted}
 use Rattle.record.specs.declared.Block.{Block}
 use Rattle.model.specs.Nodes.{EX, CM, nodes, node, entry, lowest, highest, chosen}
@@ -22,10 +23,6 @@ use Rattle.play.specs.declared.Step.{Step}
 -- a block that tests 4 and 5 accept
 abbrev pub AcceptedBlock : Block → Type 0
 AcceptedBlock b = blockVerdict b ≡ (0, 0)
-
--- "Byte .. 2 highest latency hi": one whose highest latencies are bytes, as those of every block value of the code are
-abbrev pub ByteLatencies : Block → Type 0
-ByteLatencies b = (i : ℕ) → entry b i .hi ≤ 255
 
 -- a latency list that tests 7 and 8 accept
 abbrev pub AcceptedList : Block → List ℕ → Type 0
@@ -53,8 +50,8 @@ longest b = tab (b .n) (λ i. entry b i .hi)
 
 -- a block that ends at `end` under them, and at its bound, which is later, under the list l
 pub record Anomaly (b : Block) (l : List ℕ) (end late : ℕ) : Type 0 where
+  pub whole : Whole b
   pub accepted : AcceptedBlock b
-  pub bytes : ByteLatencies b
   pub longestListed : AcceptedList b (longest b)
   pub listed : AcceptedList b l
   pub underLongest : playLength b (chosen b (longest b)) ≡ end

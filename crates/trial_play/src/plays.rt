@@ -1,5 +1,6 @@
 // Plays: the table and the length, and the same play cycle by cycle.
 use crate::steps::same_starts;
+use crate::steps::steps;
 use crate::steps::walk;
 use play::PlayState;
 use record::Block;
@@ -7,6 +8,7 @@ use trial_blocks::blocks::block_e;
 use trial_blocks::crowded::crowded;
 use trial_blocks::latencies::latencies;
 use trial_blocks::made::next;
+use trial_blocks::show::answer;
 use trial_blocks::show::count;
 use trial_blocks::show::more;
 use trial_blocks::show::more_if;
@@ -40,6 +42,32 @@ fn first_of_e(x: u8) {
     } else {
         text(b", other starts\n");
     }
+}
+
+// All the cycles that a play may have, 513 for each instruction, and one more.
+fn to_the_end(name: &[u8], b: Block, lat: &[u8]) {
+    let n = b.n as usize;
+    let t = table(b, lat);
+    let s = steps(PlayState::first(), b, lat, 513 * n);
+    let state = s.state;
+    named(name, 513 * n);
+    named(b" cycles, accepted ", s.accepted);
+    if same_starts(state, &t) {
+        text(b", same starts; the next");
+    } else {
+        text(b", other starts; the next");
+    }
+    let step = state.cycle(b, lat);
+    let last = step.answer;
+    answer(last);
+    text(b"\n");
+}
+
+fn ends() {
+    to_the_end(b"E, ", block_e(), &[1, 4, 4, 12]);
+    let full = crowded(60, 9);
+    let lat = latencies(full, 2, 9);
+    to_the_end(b"60 instructions, ", full, &lat[0..60]);
 }
 
 // Sums over tables and lengths and over states, how many plays were stepped through, how many came to the same starts.
@@ -76,6 +104,7 @@ pub fn run() {
     first_of_e(2);
     first_of_e(3);
     first_of_e(4);
+    ends();
     let mut x: u64 = 9;
     let mut t = Totals {
         plays: 0,

@@ -1,6 +1,8 @@
 // Walks from state to state.
 use play::PlayState;
 use record::Block;
+use trial_blocks::show::more_if;
+use trial_blocks::show::number_of;
 use trial_blocks::sums::sum_numbers;
 use trial_blocks::sums::summed;
 
@@ -40,6 +42,26 @@ pub fn walk(p: PlayState, b: Block, lat: &[u8], most: usize, sum: u64) -> Reache
         cycles: most,
         sum: total,
     }
+}
+
+// Where so many cycles lead, whatever has started, and how many of them were accepted.
+pub struct Stepped {
+    pub state: PlayState,
+    pub accepted: usize,
+}
+
+// As many cycles as asked for, one after the other.
+pub fn steps(p: PlayState, b: Block, lat: &[u8], cycles: usize) -> Stepped {
+    let mut state = p;
+    let mut accepted = 0usize;
+    for k in 0..cycles {
+        let step = state.cycle(b, lat);
+        let answer = step.answer;
+        accepted = more_if(number_of(answer) == 0, accepted);
+        let next = step.state;
+        state = next;
+    }
+    Stepped { state, accepted }
 }
 
 pub fn same_state(p: PlayState, q: PlayState) -> bool {

@@ -1,17 +1,32 @@
--- `exports::bench_analyse` meets its contract, by what the reader and the analysis promise. Assumes nothing.
-use mathlib.Core.Path.{ap, _∙_}
-use Prim.Native.Nat.{ℕ}
+-- `exports::bench_analyse` meets its contract, by what the reader and the operation promise. Assumes nothing.
+use Rattle.exports.specs.Doors.{recordTests}
+use Rattle.exports.proofs.DoorVerdicts.{reading-place, door-refused}
+use Rattle.exports.proofs.OperationDoors.{analyse-place, analyse-door}
 use borrow.Author.Needs.{needs}
 use Rattle.exports.proofs.bench_analyse.Statement.{statement}
 use Rattle.exports.proofs.bench_analyse.Tie as tie
 
+one-number-requires : tie.Need-one-number-requires
+one-number-requires c κs = reading-place _ _ (c .before .before .before .read .ensures)
+
+one-number-requires-2 : tie.Need-one-number-requires-2
+one-number-requires-2 c κs =
+    let e = c .before .before .before .before .enum-told2 .given .1 in
+    analyse-place _ _ (c .before .before .before .before .before .before .before .read .ensures) e _ _ _ (c .before .before .analyse .ensures)
+
 returns : tie.Need-returns
+unfolding recordTests
 returns c =
-    let w = c .before .before .before .analyse in
-    let r = c .before .before .before .before .before .before .read in
-    rw (← r .ensures .block) (c .number .ensures ∙ ap (λ (v : ℕ × ℕ). v .0) (w .ensures .answer), w .ensures .output)
+    let told = c .before .enum-told .given in
+    door-refused _ _ (c .before .before .before .before .read .ensures) _ _ _ (told .0 .0) _ (told .1) (c .one-number .ensures)
+
+returns-2 : tie.Need-returns-2
+returns-2 c =
+    let e = c .before .before .before .before .before .enum-told2 .given .1 in
+    analyse-door _ _ (c .before .before .before .before .before .before .before .before .read .ensures) e _ _ _ (c .before .before .before .analyse .ensures) _ (c .one-number2 .ensures)
 
 pub bench-analyse-spec : {M : Type 1} → statement M
 bench-analyse-spec =
     tie.close
-    (tie.spec (λ c κs. search needs) (λ c κs. search needs) (λ c κs. search needs) (λ c. search needs) returns)
+    (tie.spec (λ c κs. search needs) (λ c. search needs) one-number-requires (λ c. search needs) (λ c κs. search needs)
+    one-number-requires-2 returns (λ c. search needs) returns-2)

@@ -1,17 +1,32 @@
--- `exports::bench_play` meets its contract, by what the reader and the play promise. Assumes nothing.
-use mathlib.Core.Path.{ap, _∙_}
-use Prim.Native.Nat.{ℕ}
+-- `exports::bench_play` meets its contract, by what the reader and the operation promise. Assumes nothing.
+use Rattle.exports.specs.Doors.{tableTests}
+use Rattle.exports.proofs.DoorVerdicts.{reading-place, door-refused}
+use Rattle.exports.proofs.OperationDoors.{play-place, play-door}
 use borrow.Author.Needs.{needs}
 use Rattle.exports.proofs.bench_play.Statement.{statement}
 use Rattle.exports.proofs.bench_play.Tie as tie
 
+one-number-requires : tie.Need-one-number-requires
+one-number-requires c κs = reading-place _ _ (c .before .before .before .read .ensures)
+
+one-number-requires-2 : tie.Need-one-number-requires-2
+one-number-requires-2 c κs =
+    let e = c .before .before .before .before .enum-told2 .given .1 in
+    play-place _ _ (c .before .before .before .before .before .before .before .read .ensures) e _ _ _ _ (c .before .before .play .ensures)
+
 returns : tie.Need-returns
+unfolding tableTests
 returns c =
-    let w = c .before .before .before .play in
-    let r = c .before .before .before .before .before .before .read in
-    rw (← r .ensures .block) (c .number .ensures ∙ ap (λ (v : ℕ × ℕ). v .0) (w .ensures .answer), w .ensures .output)
+    let told = c .before .enum-told .given in
+    door-refused _ _ (c .before .before .before .before .read .ensures) _ _ _ (told .0 .0) _ (told .1) (c .one-number .ensures)
+
+returns-2 : tie.Need-returns-2
+returns-2 c =
+    let e = c .before .before .before .before .before .enum-told2 .given .1 in
+    play-door _ _ (c .before .before .before .before .before .before .before .before .read .ensures) e _ _ _ _ (c .before .before .before .play .ensures) _ (c .one-number2 .ensures)
 
 pub bench-play-spec : {M : Type 1} → statement M
 bench-play-spec =
     tie.close
-    (tie.spec (λ c κs. search needs) (λ c κs. search needs) (λ c κs. search needs) (λ c. search needs) returns)
+    (tie.spec (λ c κs. search needs) (λ c. search needs) one-number-requires (λ c. search needs) (λ c κs. search needs)
+    one-number-requires-2 returns (λ c. search needs) returns-2)

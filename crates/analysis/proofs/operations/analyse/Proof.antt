@@ -1,26 +1,30 @@
 -- `analysis::operations::analyse` meets its contract. Assumes nothing.
-use mathlib.Core.Path.{ap, sym, _∙_}
-use Rattle.record.specs.Refusals.{meaning}
+use Rattle.record.proofs.Answers.{accepted-so}
 use Rattle.analysis.proofs.Outcomes.{analyse-refused, analyse-output, analyse-done}
 use borrow.Author.Needs.{needs}
 use Rattle.analysis.proofs.operations.analyse.Statement.{statement}
 use Rattle.analysis.proofs.operations.analyse.Tie as tie
 
 returns : tie.Need-returns
-returns c = analyse-output _ _ (sym (ap meaning (sym (c .before .enum-told2 .given .1)) ∙ c .before .before .before .block-answer .ensures)) (c .if1 .taken)
+returns c =
+    let t = c .before .before .before .block-answer .ensures in
+    analyse-output _ _ (t .whole) (accepted-so _ (c .before .enum-told2 .given .1) (t .answer)) (c .if1 .taken)
 
 result-into-requires : tie.Need-result-into-requires
 result-into-requires c κs =
-    (sym (ap meaning (sym (c .before .before .enum-told2 .given .1)) ∙ c .before .before .before .before .block-answer .ensures), search needs)
+    (accepted-so _ (c .before .before .enum-told2 .given .1) (c .before .before .before .before .block-answer .ensures .answer), search needs)
 
 returns-2 : tie.Need-returns-2
-returns-2 c = analyse-refused _ _ (c .enum-told .given .0 .0) _ (c .enum-told .given .1) (c .before .before .block-answer .ensures)
+returns-2 c =
+    let t = c .before .before .block-answer .ensures in
+    analyse-refused _ _ (t .whole) (c .enum-told .given .0 .0) _ (c .enum-told .given .1) (t .answer)
 
 returns-3 : tie.Need-returns-3
 returns-3 c =
     let x = c .before .before .before .before .before .before .before .before .before .args in
-    let v = ap meaning (sym (c .before .before .before .before .before .enum-told2 .given .1)) ∙ c .before .before .before .before .before .before .before .block-answer .ensures in
-    analyse-done (x .b) (x .out .now) (sym v) (search needs) _ (c .before .before .result-into .ensures)
+    let t = c .before .before .before .before .before .before .before .block-answer .ensures in
+    let z = accepted-so _ (c .before .before .before .before .before .enum-told2 .given .1) (t .answer) in
+    analyse-done (x .b) (x .out .now) (t .whole) z (search needs) _ (c .before .before .result-into .ensures)
 
 pub analyse-spec : {M : Type 1} → statement M
 analyse-spec =

@@ -3,7 +3,8 @@ use native.Mathlib.Omega.{arith}
 use lib.ListN.{length-replicate}
 use Prim.Native.Nat.{ℕ}
 use Rattle.unpacked.proofs.BlockColumns.{few}
-use Rattle.play.proofs.Outcomes.{accepted-so, length-fine, length-refused, length-done}
+use Rattle.record.proofs.Answers.{accepted-so}
+use Rattle.play.proofs.Outcomes.{length-fine, length-refused, length-done}
 use Rattle.play.proofs.PlayLimits.{some, length-last}
 use borrow.Author.Needs.{needs}
 use Rattle.play.proofs.operations.play_length.Statement.{statement}
@@ -11,29 +12,31 @@ use Rattle.play.proofs.operations.play_length.Tie as tie
 
 table-into-requires : tie.Need-table-into-requires
 table-into-requires c κs =
-    let z = length-fine _ _ (accepted-so _ (c .before .enum-told2 .given .1) (c .before .before .before .both-answer .ensures)) in
+    let z = length-fine _ _ (accepted-so _ (c .before .enum-told2 .given .1) (c .before .before .before .both-answer .ensures .0)) in
     let r = length-replicate {A = ℕ} 900 0 in
     (z .0, z .1, omega (arith, few (c .before .before .before .before .before .args .b) (z .0), r))
 
 sub-last : tie.Need-sub-last
 sub-last c =
-    let z = length-fine _ _ (accepted-so _ (c .before .before .before .before .enum-told2 .given .1) (c .before .before .before .before .before .before .both-answer .ensures)) .0 in
+    let z = length-fine _ _ (accepted-so _ (c .before .before .before .before .enum-told2 .given .1) (c .before .before .before .before .before .before .both-answer .ensures .0)) .0 in
     omega (arith, some (c .before .before .before .before .before .before .before .before .args .b) z)
 
 array-read-t14 : tie.Need-array-read-t14
 array-read-t14 c =
-    let z = length-fine _ _ (accepted-so _ (c .before .before .before .before .enum-told2 .given .1) (c .before .before .before .before .before .before .both-answer .ensures)) .0 in
+    let z = length-fine _ _ (accepted-so _ (c .before .before .before .before .enum-told2 .given .1) (c .before .before .before .before .before .before .both-answer .ensures .0)) .0 in
     omega (arith, some (c .before .before .before .before .before .before .before .before .args .b) z, few (c .before .before .before .before .before .before .before .before .args .b) z)
 
 returns : tie.Need-returns
-returns c = length-refused _ _ (c .enum-told .given .0 .0) _ (c .enum-told .given .1) (c .before .before .both-answer .ensures)
+returns c =
+    let t = c .before .before .both-answer .ensures in
+    length-refused _ _ (t .1) (c .enum-told .given .0 .0) _ (c .enum-told .given .1) (t .0)
 
 returns-2 : tie.Need-returns-2
 returns-2 c =
     let a = c .before .before .before .before .before .before .before .before .args in
     let e = c .before .before .before .before .enum-told2 .given .1 in
-    let z = accepted-so _ e (c .before .before .before .before .before .before .both-answer .ensures) in
-    length-done _ _ _ _ z e (length-last (a .b) (length-fine _ _ z .0) (a .lat .now) _ _ (c .before .before .table-into .ensures))
+    let z = accepted-so _ e (c .before .before .before .before .before .before .both-answer .ensures .0) in
+    length-done _ _ (c .before .before .before .before .before .before .both-answer .ensures .1) _ _ z e (length-last (a .b) (length-fine _ _ z .0) (a .lat .now) _ _ (c .before .before .table-into .ensures))
 
 pub play-length-spec : {M : Type 1} → statement M
 play-length-spec =

@@ -1,22 +1,26 @@
 -- `record::writer::write` meets its contract. Assumes nothing.
-use mathlib.Core.Path.{ap, sym, _∙_}
-use Rattle.record.specs.Refusals.{meaning}
+use Rattle.record.proofs.Answers.{accepted-so}
 use Rattle.record.proofs.OutputVerdicts.{write-refused, write-output, write-done}
 use borrow.Author.Needs.{needs}
 use Rattle.record.proofs.writer.write.Statement.{statement}
 use Rattle.record.proofs.writer.write.Tie as tie
 
 returns : tie.Need-returns
-returns c = write-output _ _ (sym (ap meaning (sym (c .before .enum-told2 .given .1)) ∙ c .before .before .before .tested .ensures)) (c .if1 .taken)
+returns c =
+    let t = c .before .before .before .tested .ensures in
+    write-output _ _ (t .whole) (accepted-so _ (c .before .enum-told2 .given .1) (t .answer)) (c .if1 .taken)
 
 returns-2 : tie.Need-returns-2
-returns-2 c = write-refused _ _ (c .enum-told .given .0 .0) _ (c .enum-told .given .1) (c .before .before .tested .ensures)
+returns-2 c =
+    let t = c .before .before .tested .ensures in
+    write-refused _ _ (t .whole) (c .enum-told .given .0 .0) _ (c .enum-told .given .1) (t .answer)
 
 returns-3 : tie.Need-returns-3
 returns-3 c =
     let x = c .before .before .before .before .before .before .before .before .before .before .before .before .args in
-    let v = ap meaning (sym (c .before .before .before .before .before .before .enum-told2 .given .1)) ∙ c .before .before .before .before .before .before .before .before .tested .ensures in
-    write-done (x .b) (x .out .now) (sym v) (search needs) _ (c .before .before .put-block .ensures)
+    let t = c .before .before .before .before .before .before .before .before .tested .ensures in
+    let z = accepted-so _ (c .before .before .before .before .before .before .enum-told2 .given .1) (t .answer) in
+    write-done (x .b) (x .out .now) (t .whole) z (search needs) _ (c .before .before .put-block .ensures)
 
 pub write-spec : {M : Type 1} → statement M
 write-spec =

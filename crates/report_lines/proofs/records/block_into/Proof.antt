@@ -27,11 +27,11 @@ returns c =
     let n2 = c3 .before .before .number-into2 in
     let k = c .before .before .counts-into in
     let e : countsText (s .result) ≡ spaced (decimal (bound (a .b)) ∷ decimal (roundCount (a .b)) ∷ decimal (pairCount (a .b)) ∷ decimal (apartCount (a .b)) ∷ [])
-    = ap countsText (s .ensures) ∙ counts-carried (a .b) (p .0) (p .1) in
+    = ap countsText (s .ensures .0) ∙ counts-carried (a .b) (s .ensures .1) (p .0) in
     let l : Fields (a .out .now) (a .at) (decimal (a .b .number) ∷ (letter (a .b .origin) ∷ []) ∷ decimal (a .b .n) ∷ decimal (bound (a .b)) ∷ decimal (roundCount (a .b)) ∷ decimal (pairCount (a .b)) ∷ decimal (apartCount (a .b)) ∷ []) (k .last .1 .1 .0) (k .result)
-    = more-fields (omega (arith, p .2)) (number-field _ _ 32 refl (n1 .ensures .0 .0) (n1 .ensures .1))
-    (more-fields (omega (arith, p .2, n1 .ensures .0 .1, n1 .kept .1 .1 .1 .0)) (record { next = o1 .ensures .0; text = o1 .ensures .1 })
-    (more-fields (omega (arith, p .2, n1 .ensures .0 .1, n1 .kept .1 .1 .1 .0, o1 .ensures .0, o1 .kept .1 .1 .0)) (number-field _ _ 32 refl (n2 .ensures .0 .0) (n2 .ensures .1))
+    = more-fields (omega (arith, p .1)) (number-field _ _ 32 refl (n1 .ensures .0 .0) (n1 .ensures .1))
+    (more-fields (omega (arith, p .1, n1 .ensures .0 .1, n1 .kept .1 .1 .1 .0)) (record { next = o1 .ensures .0; text = o1 .ensures .1 })
+    (more-fields (omega (arith, p .1, n1 .ensures .0 .1, n1 .kept .1 .1 .1 .0, o1 .ensures .0, o1 .kept .1 .1 .0)) (number-field _ _ 32 refl (n2 .ensures .0 .0) (n2 .ensures .1))
     (record { next = rw (← e) (k .ensures .0 .0); text = rw (← e) (k .ensures .1) }))) in
     ((l .next, omega (arith, n1 .ensures .0 .1, o1 .ensures .0, n2 .ensures .0 .1, k .ensures .0 .1)), l .text)
 

@@ -1,10 +1,9 @@
 -- `report_lines::records::line_at` meets its contract. Assumes nothing.
 use mathlib.Core.Path.{_≡_, refl, _∙_}
 use native.Mathlib.Omega.{arith}
-use Rattle.record.specs.Promises.{ByteString}
-use Rattle.theorems.proofs.Demand.{read-latencies}
+use Rattle.record.proofs.RoundTrips.{read-decoded, read-accepted}
 use Rattle.report_lines.specs.Report.{line, blockLine, refusalLine}
-use Rattle.report_lines.proofs.RecordLine.{block-accepted, line-accepted, line-refused}
+use Rattle.report_lines.proofs.RecordLine.{line-accepted, line-refused}
 use borrow.Author.Needs.{needs}
 use Rattle.report_lines.proofs.records.line_at.Statement.{statement}
 use Rattle.report_lines.proofs.records.line_at.Tie as tie
@@ -12,9 +11,8 @@ use Rattle.report_lines.proofs.records.line_at.Tie as tie
 block-into-requires : tie.Need-block-into-requires
 block-into-requires c κs =
     let r = c .before .before .before .before .read in
-    let a = c .before .before .before .before .before .before .before .args in
-    let u : ByteString (a .s .now) = record { byte = λ k. search (needs, c .before .before .before .before .before .before .shared-slice-known .given k) } in
-    (block-accepted (a .s .now) (r .result) (r .ensures) u (c .before .enum-told .given .1), read-latencies (a .s .now) (r .result) u (r .ensures), search needs)
+    let e = c .before .enum-told .given .1 in
+    (rw (read-decoded _ _ (r .ensures) e) (read-accepted _ _ (r .ensures) e), search needs)
 
 returns : tie.Need-returns
 returns c =

@@ -14,7 +14,7 @@ returns c =
     let k = c .line-at in
     let a = c .before .before .before .args in
     let n = rw zero-add at (k .ensures .0 .0) in
-    (n, (k .ensures .1, put-counts (a .out .now) (line (a .index) (a .s .now)) _ _ n (k .ensures .1)))
+    (record { long = n; output = k .ensures .1 }, put-counts (a .out .now) (line (a .index) (a .s .now)) _ _ n (k .ensures .1))
 
 pub line-into-spec : {M : Type 1} → statement M
 line-into-spec = tie.close (tie.spec line-at-requires returns)

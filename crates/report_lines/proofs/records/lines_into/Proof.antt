@@ -29,7 +29,7 @@ returns c =
     let e : take (m .result) (a .s .now) ≡ take 65536 (a .s .now) = take-smaller (m .result) 65536 (a .s .now) (m .ensures) in
     let n = rw e at (p .ensures .0) in
     let o = rw e at (p .ensures .1) in
-    (n, (o, put-counts (a .out .now) (linesFrom (128 * a .piece) (take 65536 (a .s .now))) _ _ n o))
+    (record { long = n; output = o }, put-counts (a .out .now) (linesFrom (128 * a .piece) (take 65536 (a .s .now))) _ _ n o)
 
 pub lines-into-spec : {M : Type 1} → statement M
 lines-into-spec = tie.close (tie.spec (λ c κs. search needs) slice-aggregate-piece-into piece-into-requires returns)

@@ -1,0 +1,3 @@
+pub mod DoorVerdicts
+pub mod OperationDoors
+pub mod Outcomes

@@ -1,0 +1,38 @@
+-- `exports::bench_play_length` meets its contract, by what the reader and the play promise. Assumes nothing.
+use Rattle.exports.specs.Doors.{playLengthTests}
+use Rattle.exports.proofs.DoorVerdicts.{reading-place, door-refused}
+use Rattle.exports.proofs.OperationDoors.{length-place, length-refused, length-done}
+use borrow.Author.Needs.{needs}
+use Rattle.exports.proofs.bench_play_length.Statement.{statement}
+use Rattle.exports.proofs.bench_play_length.Tie as tie
+
+one-number-requires : tie.Need-one-number-requires
+one-number-requires c κs = reading-place _ _ (c .before .before .before .read .ensures)
+
+one-number-requires-2 : tie.Need-one-number-requires-2
+one-number-requires-2 c κs =
+    let e = c .before .before .before .enum-told2 .given .1 in
+    length-place _ _ (c .before .before .before .before .before .before .read .ensures) e _ _ (c .before .before .play-length .ensures)
+
+returns : tie.Need-returns
+unfolding playLengthTests
+returns c =
+    let told = c .before .enum-told .given in
+    door-refused _ _ (c .before .before .before .before .read .ensures) _ _ _ (told .0 .0) _ (told .1) (c .one-number .ensures)
+
+returns-2 : tie.Need-returns-2
+returns-2 c =
+    let e = c .before .before .before .before .enum-told2 .given .1 in
+    let told = c .before .enum-told3 .given in
+    length-refused _ _ (c .before .before .before .before .before .before .before .read .ensures) e _ _ (c .before .before .before .play-length .ensures) _ (told .0 .0) (told .1) _ (c .one-number2 .ensures)
+
+returns-3 : tie.Need-returns-3
+returns-3 c =
+    let e = c .before .before .before .enum-told2 .given .1 in
+    length-done _ _ (c .before .before .before .before .before .before .read .ensures) e _ _ (c .before .before .play-length .ensures) _ (c .enum-told4 .given .1)
+
+pub bench-play-length-spec : {M : Type 1} → statement M
+bench-play-length-spec =
+    tie.close
+    (tie.spec (λ c κs. search needs) (λ c. search needs) one-number-requires (λ c. search needs) (λ c κs. search needs)
+    (λ c. search needs) one-number-requires-2 (λ c. search needs) returns returns-2 returns-3)

@@ -1,0 +1,32 @@
+-- `exports::bench_windows` meets its contract, by what the reader and the operation promise. Assumes nothing.
+use Rattle.exports.specs.Doors.{windowsTests}
+use Rattle.exports.proofs.DoorVerdicts.{reading-place, door-refused}
+use Rattle.exports.proofs.OperationDoors.{windows-place, windows-door}
+use borrow.Author.Needs.{needs}
+use Rattle.exports.proofs.bench_windows.Statement.{statement}
+use Rattle.exports.proofs.bench_windows.Tie as tie
+
+one-number-requires : tie.Need-one-number-requires
+one-number-requires c κs = reading-place _ _ (c .before .before .before .read .ensures)
+
+one-number-requires-2 : tie.Need-one-number-requires-2
+one-number-requires-2 c κs =
+    let e = c .before .before .before .before .enum-told2 .given .1 in
+    windows-place _ _ (c .before .before .before .before .before .before .before .read .ensures) e _ _ _ (c .before .before .windows .ensures)
+
+returns : tie.Need-returns
+unfolding windowsTests
+returns c =
+    let told = c .before .enum-told .given in
+    door-refused _ _ (c .before .before .before .before .read .ensures) _ _ _ (told .0 .0) _ (told .1) (c .one-number .ensures)
+
+returns-2 : tie.Need-returns-2
+returns-2 c =
+    let e = c .before .before .before .before .before .enum-told2 .given .1 in
+    windows-door _ _ (c .before .before .before .before .before .before .before .before .read .ensures) e _ _ _ (c .before .before .before .windows .ensures) _ (c .one-number2 .ensures)
+
+pub bench-windows-spec : {M : Type 1} → statement M
+bench-windows-spec =
+    tie.close
+    (tie.spec (λ c κs. search needs) (λ c. search needs) one-number-requires (λ c. search needs) (λ c κs. search needs)
+    one-number-requires-2 returns (λ c. search needs) returns-2)
