@@ -1,5 +1,12 @@
-// Made records: right ones, damaged ones, and latency lists for them. All come from one seed, in the order asked for.
-use crate::plain::{check, read, write, Entry, NO_BLOCK};
+// Made records and latency lists for them, all right; damage.rs makes wrong ones. All come from one seed, in the order
+// asked for.
+use crate::plain::{read, write, Entry, NO_BLOCK};
+
+// What an operation is given beside its output.
+pub struct Trial {
+    pub record: Vec<u8>,
+    pub list: Vec<u8>,
+}
 
 pub struct Seed(pub u64);
 
@@ -9,6 +16,10 @@ impl Seed {
         self.0 ^= self.0 >> 7;
         self.0 ^= self.0 << 17;
         (self.0 >> 11) % m
+    }
+
+    pub fn among<T: Copy>(&mut self, x: &[T]) -> T {
+        x[self.below(x.len() as u64) as usize]
     }
 
     fn register(&mut self) -> u8 {
@@ -45,7 +56,7 @@ impl Seed {
     // Of n instructions with latencies to `top`: few kinds and few registers, so that many contend and many wait.
     pub fn contended(&mut self, n: usize, top: u64) -> [u8; 512] {
         let (kinds, registers) = (1 + self.below(4), 1 + self.below(8));
-        let (q, w) = ([4, 16][self.below(2) as usize], [8, 32][self.below(2) as usize]);
+        let (q, w) = (self.among(&[4, 16]), self.among(&[8, 32]));
         let mut b = NO_BLOCK;
         b.n = n as u8;
         b.q = 1 + self.below(q) as u8;
@@ -67,31 +78,15 @@ impl Seed {
         out
     }
 
-    // A latency for each instruction of a record; spoiled now and then where asked.
-    pub fn latencies(&mut self, r: &[u8; 512], spoil: bool) -> Vec<u8> {
+    // A latency for each instruction of a record.
+    pub fn latencies(&mut self, r: &[u8; 512]) -> Vec<u8> {
         let b = read(r).unwrap();
-        let n = b.n as usize;
-        let mut l: Vec<u8> =
-            b.entries[..n].iter().map(|e| e.lo + self.below((e.hi - e.lo) as u64 + 1) as u8).collect();
-        if spoil {
-            match self.below(4) {
-                0 => l[self.below(n as u64) as usize] = self.below(256) as u8,
-                1 => l.resize(self.below(62) as usize, 1),
-                _ => {}
-            }
-        }
-        l
+        let used = &b.entries[..b.n as usize];
+        used.iter().map(|e| e.lo + self.below((e.hi - e.lo) as u64 + 1) as u8).collect()
     }
 
-    // A byte changed, the check made right again every second time; now and then cut short.
-    pub fn damaged(&mut self, r: &[u8; 512]) -> Vec<u8> {
-        let mut s = *r;
-        s[self.below(512) as usize] = self.below(256) as u8;
-        if self.below(2) == 0 {
-            let k = check(&s);
-            s[508..].copy_from_slice(&k.to_le_bytes());
-        }
-        let n = if self.below(20) == 0 { self.below(513) as usize } else { 512 };
-        s[..n].to_vec()
+    // A record as it is, and a right list for it.
+    pub fn right(&mut self, r: &[u8; 512]) -> Trial {
+        Trial { record: r.to_vec(), list: self.latencies(r) }
     }
 }
