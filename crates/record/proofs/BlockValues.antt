@@ -22,14 +22,18 @@ use Rattle.record.specs.declared.Entry.{Entry}
 use Rattle.record.specs.declared.Reading.{Reading}
 use Rattle.record.proofs.Block.Laws as laws
 
+-- an entry that is all zero is six bytes
+zero-bytes : ByteEntry noEntry
+zero-bytes =
+    record { kind = omega arith; lo = omega arith; hi = omega arith; writes = omega arith; reads1 = omega arith; reads2 = omega arith }
+
 -- entries as the machine has them
 abbrev pub Known : List Entry → Type 0
 Known es = WT (laws.the-laws .1 .1 .1 .1 .1 .1 .1 .1 .0 .val (map (λ (e : Entry). (e .kind, (e .lo, (e .hi, (e .writes, (e .reads1, (e .reads2, Prim.tt {0}))))))) es))
 
 -- each of them is six bytes
 pub each-bytes : (es : List Entry) → Known es → (i : ℕ) → ByteEntry (getD es i noEntry)
-each-bytes [] g i =
-    record { kind = omega arith; lo = omega arith; hi = omega arith; writes = omega arith; reads1 = omega arith; reads2 = omega arith }
+each-bytes [] g i = zero-bytes
 each-bytes (e ∷ es) g zero =
     let x = g .0 in
     let kind : Fits w8 (e .kind) = x .0 in
@@ -56,10 +60,6 @@ module _ (s : List ℕ) (u : ByteString s) where
         reads2 = omega (arith, u .byte (at i + 5));
       }
 
-  zero-bytes : ByteEntry noEntry
-  zero-bytes =
-      record { kind = omega arith; lo = omega arith; hi = omega arith; writes = omega arith; reads1 = omega arith; reads2 = omega arith }
-
   decoded-whole : Whole (decoded s)
   unfolding decoded
   decoded-whole =
@@ -79,25 +79,25 @@ module _ (s : List ℕ) (u : ByteString s) where
             (λ t. rw (List·getD-eq-default (tab 60 (entryAt s)) noEntry {n = i} (omega (arith, length-tab 60 (entryAt s), ltb-false i 60 t))) zero-bytes);
       }
 
-  none-whole : Whole noBlock
-  unfolding noBlock
-  none-whole =
-      record {
-        n = omega arith;
-        q = omega arith;
-        w = omega arith;
-        f = omega arith;
-        d = omega arith;
-        c = omega arith;
-        origin = omega arith;
-        number = omega arith;
-        entries = length-replicate 60 noEntry;
-        each = λ i. rw (getD-all noEntry 60 i) zero-bytes;
-      }
+none-whole : Whole noBlock
+unfolding noBlock
+none-whole =
+    record {
+      n = omega arith;
+      q = omega arith;
+      w = omega arith;
+      f = omega arith;
+      d = omega arith;
+      c = omega arith;
+      origin = omega arith;
+      number = omega arith;
+      entries = length-replicate 60 noEntry;
+      each = λ i. rw (getD-all noEntry 60 i) zero-bytes;
+    }
 
 -- WHATEVER READING GIVES IS WHOLE
 pub read-whole : (s : List ℕ) (r : Reading) → Reads s r → Whole (r .block)
 unfolding readBlock
 read-whole s r x =
     rw (x .block)
-    (by-test (accepts (readVerdict s)) (λ t. rw t (decoded-whole s (x .bytes))) (λ t. rw t (none-whole s (x .bytes))))
+    (by-test (accepts (readVerdict s)) (λ t. rw t (decoded-whole s (x .bytes))) (λ t. rw t none-whole))

@@ -1,5 +1,5 @@
 -- The play of all the highest latencies is no bound: block E, whose results are worked by hand. Assumes nothing.
-use Prim.Native.Nat.{ℕ, zero, suc, _≤_}
+use Prim.Native.Nat.{ℕ, zero, suc, _≤_, max}
 use mathlib.Core.Path.{_≡_, refl, ap}
 use mathlib.Core.List.{List, [], _∷_}
 use native.Mathlib.Omega.{arith}
@@ -24,17 +24,19 @@ listed-E : AcceptedList blockE (1 ∷ 4 ∷ 4 ∷ 12 ∷ []) × AcceptedList blo
 unfolding verdict listTests listTest latencyTest wrong least leastFrom blockE
 listed-E = (refl, refl)
 
-six-bytes : (k l h x y z : ℕ) → k ≤ 255 → l ≤ 255 → h ≤ 255 → x ≤ 255 → y ≤ 255 → z ≤ 255
+-- an entry whose largest number is a byte
+six-bytes : (k l h x y z : ℕ) → max k (max l (max h (max x (max y z)))) ≤ 255
     → ByteEntry (record { kind = k; lo = l; hi = h; writes = x; reads1 = y; reads2 = z })
-six-bytes k l h x y z a b c d e f = record { kind = a; lo = b; hi = c; writes = d; reads1 = e; reads2 = f }
+six-bytes k l h x y z m =
+    record { kind = omega arith; lo = omega arith; hi = omega arith; writes = omega arith; reads1 = omega arith; reads2 = omega arith }
 
 bytes-E : (i : ℕ) → ByteEntry (entry blockE i)
 unfolding blockE
-bytes-E zero = six-bytes _ _ _ _ _ _ (omega arith) (omega arith) (omega arith) (omega arith) (omega arith) (omega arith)
-bytes-E (suc zero) = six-bytes _ _ _ _ _ _ (omega arith) (omega arith) (omega arith) (omega arith) (omega arith) (omega arith)
-bytes-E (suc (suc zero)) = six-bytes _ _ _ _ _ _ (omega arith) (omega arith) (omega arith) (omega arith) (omega arith) (omega arith)
-bytes-E (suc (suc (suc zero))) = six-bytes _ _ _ _ _ _ (omega arith) (omega arith) (omega arith) (omega arith) (omega arith) (omega arith)
-bytes-E (suc (suc (suc (suc i)))) = rw (getD-all noEntry 56 i) (six-bytes _ _ _ _ _ _ (omega arith) (omega arith) (omega arith) (omega arith) (omega arith) (omega arith))
+bytes-E zero = six-bytes _ _ _ _ _ _ (omega arith)
+bytes-E (suc zero) = six-bytes _ _ _ _ _ _ (omega arith)
+bytes-E (suc (suc zero)) = six-bytes _ _ _ _ _ _ (omega arith)
+bytes-E (suc (suc (suc zero))) = six-bytes _ _ _ _ _ _ (omega arith)
+bytes-E (suc (suc (suc (suc i)))) = rw (getD-all noEntry 56 i) (six-bytes 0 0 0 0 0 0 (omega arith))
 
 whole-E : Whole blockE
 unfolding blockE

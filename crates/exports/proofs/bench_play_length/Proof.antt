@@ -6,13 +6,21 @@ use borrow.Author.Needs.{needs}
 use Rattle.exports.proofs.bench_play_length.Statement.{statement}
 use Rattle.exports.proofs.bench_play_length.Tie as tie
 
+-- the places: where the record was read, and where its reading was accepted, before the operation's call
+abbrev read-of : tie.After-enum-told2 → tie.After-read
+read-of c = c .before .before .before
+
+abbrev told-of : tie.After-play-length → tie.After-enum-told2
+told-of c = c .before
+
 one-number-requires : tie.Need-one-number-requires
 one-number-requires c κs = reading-place _ _ (c .before .before .before .read .ensures)
 
 one-number-requires-2 : tie.Need-one-number-requires-2
 one-number-requires-2 c κs =
-    let e = c .before .before .before .enum-told2 .given .1 in
-    length-place _ _ (c .before .before .before .before .before .before .read .ensures) e _ _ (c .before .before .play-length .ensures)
+    let call = c .before .before in
+    let told = told-of call in
+    length-place _ _ (read-of told .read .ensures) (told .enum-told2 .given .1) _ _ (call .play-length .ensures)
 
 returns : tie.Need-returns
 unfolding playLengthTests
@@ -22,14 +30,17 @@ returns c =
 
 returns-2 : tie.Need-returns-2
 returns-2 c =
-    let e = c .before .before .before .before .enum-told2 .given .1 in
-    let told = c .before .enum-told3 .given in
-    length-refused _ _ (c .before .before .before .before .before .before .before .read .ensures) e _ _ (c .before .before .before .play-length .ensures) _ (told .0 .0) (told .1) _ (c .one-number2 .ensures)
+    let refused = c .before .enum-told3 .given in
+    let call = c .before .before .before in
+    let told = told-of call in
+    let door = length-refused _ _ (read-of told .read .ensures) (told .enum-told2 .given .1) _ _ (call .play-length .ensures) in
+    door _ (refused .0 .0) (refused .1) _ (c .one-number2 .ensures)
 
 returns-3 : tie.Need-returns-3
 returns-3 c =
-    let e = c .before .before .before .enum-told2 .given .1 in
-    length-done _ _ (c .before .before .before .before .before .before .read .ensures) e _ _ (c .before .before .play-length .ensures) _ (c .enum-told4 .given .1)
+    let call = c .before .before in
+    let told = told-of call in
+    length-done _ _ (read-of told .read .ensures) (told .enum-told2 .given .1) _ _ (call .play-length .ensures) _ (c .enum-told4 .given .1)
 
 pub bench-play-length-spec : {M : Type 1} → statement M
 bench-play-length-spec =

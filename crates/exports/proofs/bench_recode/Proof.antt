@@ -6,13 +6,21 @@ use borrow.Author.Needs.{needs}
 use Rattle.exports.proofs.bench_recode.Statement.{statement}
 use Rattle.exports.proofs.bench_recode.Tie as tie
 
+-- the places: where the record was read, and where its reading was accepted, before the operation's call
+abbrev read-of : tie.After-enum-told2 → tie.After-read
+read-of c = c .before .before .before
+
+abbrev told-of : tie.After-write → tie.After-enum-told2
+told-of c = c .before .before
+
 one-number-requires : tie.Need-one-number-requires
 one-number-requires c κs = reading-place _ _ (c .before .before .before .read .ensures)
 
 one-number-requires-2 : tie.Need-one-number-requires-2
 one-number-requires-2 c κs =
-    let e = c .before .before .before .before .enum-told2 .given .1 in
-    recode-place _ _ (c .before .before .before .before .before .before .before .read .ensures) e _ _ _ (c .before .before .write .ensures)
+    let call = c .before .before in
+    let told = told-of call in
+    recode-place _ _ (read-of told .read .ensures) (told .enum-told2 .given .1) _ _ _ (call .write .ensures)
 
 returns : tie.Need-returns
 unfolding recordTests
@@ -22,8 +30,9 @@ returns c =
 
 returns-2 : tie.Need-returns-2
 returns-2 c =
-    let e = c .before .before .before .before .before .enum-told2 .given .1 in
-    recode-door _ _ (c .before .before .before .before .before .before .before .before .read .ensures) e _ _ _ (c .before .before .before .write .ensures) _ (c .one-number2 .ensures)
+    let call = c .before .before .before in
+    let told = told-of call in
+    recode-door _ _ (read-of told .read .ensures) (told .enum-told2 .given .1) _ _ _ (call .write .ensures) _ (c .one-number2 .ensures)
 
 pub bench-recode-spec : {M : Type 1} → statement M
 bench-recode-spec =
