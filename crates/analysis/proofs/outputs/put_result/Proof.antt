@@ -1,7 +1,10 @@
 -- `analysis::outputs::put_result` meets its contract. Assumes nothing.
-use mathlib.Core.Path.{_∙_}
+use mathlib.Core.Path.{_≡_, _∙_}
+use Prim.Native.Nat.{_+_, _-_, _*_}
 use native.Mathlib.Omega.{arith}
 use Rattle.record.proofs.AcceptedRanges.{ranges}
+use Rattle.model.specs.Cycles.{start}
+use Rattle.analysis.specs.Result.{headOf}
 use Rattle.analysis.proofs.ResultRecord.{head-is, entries-is, put-body, put-check}
 use borrow.Author.Needs.{needs}
 use Rattle.analysis.proofs.outputs.put_result.Statement.{statement}
@@ -31,13 +34,18 @@ returns c =
     let ls = x .pre .1 .1 .0 .1 in
     let n = x .pre .1 .1 .1 in
     let head = head-is b A his early late hi es ls (x .args .counts .rounds) (x .args .counts .pairs) (x .args .counts .apart) (n .0) (n .1) (n .2) in
+    let wide = c .before .before .before .before .before .before .before .before .before .before .before .before .before .before .wide in
+    let made = c .before .before .before .before .before .before .before .before .before .before .before .before .before .result-head in
+    let last : wide .result ≡ start late (5 * b .n - 1) = wide .ensures .0 in
+    let bytes : made .result ≡ headOf (b .n) (b .origin) (wide .result + 1) (b .number) (x .args .counts .rounds) (x .args .counts .pairs) (x .args .counts .apart)
+    = made .ensures in
     c .before .before .seal .ensures
     ∙ rw (
       c .before .before .before .before .before .before .put-all-times .ensures,
       entries-is b A his early late hi es ls,
       c .before .before .before .before .before .before .before .before .before .before .put-head .ensures,
-      c .before .before .before .before .before .before .before .before .before .before .before .before .before .result-head .ensures,
-      c .before .before .before .before .before .before .before .before .before .before .before .before .before .before .wide .ensures .0,
+      bytes,
+      last,
       head,
       put-body b o,
     )

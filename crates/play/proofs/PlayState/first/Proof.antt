@@ -6,7 +6,7 @@ use Rattle.play.proofs.PlayState.first.Tie as tie
 
 returns : tie.Need-returns
 unfolding firstState
-returns c = refl
+returns c = refl {a = firstState}
 
 pub first-spec : {M : Type 1} → statement M
 first-spec = tie.close (tie.spec returns)

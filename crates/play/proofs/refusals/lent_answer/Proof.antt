@@ -1,5 +1,4 @@
 -- `play::refusals::lent_answer` meets its contract: each `return` is the first test that failed. Assumes nothing.
-use Prim.Native.Nat.{_*_, _<_, _≤_}
 use mathlib.Core.Path.{sym, _∙_}
 use native.Mathlib.Omega.{arith}
 use Rattle.play.proofs.LatencyList.{list-length, list-latency, list-none, room-short, room-right}
@@ -7,26 +6,29 @@ use borrow.Author.Needs.{needs}
 use Rattle.play.proofs.refusals.lent_answer.Statement.{statement}
 use Rattle.play.proofs.refusals.lent_answer.Tie as tie
 
+latency-fault-requires : tie.Need-latency-fault-requires
+latency-fault-requires c κs = (search needs, omega arith)
+
 returns : tie.Need-returns
 returns c =
     let a = c .before .before .before .args in
-    sym (room-short (a .b) (a .lat .now) (a .room) (c .if1 .taken))
+    sym (room-short (a .b) (a .lat .now) (a .room) (omega arith))
 
 returns-2 : tie.Need-returns-2
 returns-2 c =
     let a = c .before .before .before .before .args in
-    sym (room-right (a .b) (a .lat .now) (a .room) (c .before .if1 .left) ∙ list-length (a .b) (a .lat .now) (c .if2 .taken))
+    sym (room-right (a .b) (a .lat .now) (a .room) (omega arith) ∙ list-length (a .b) (a .lat .now) (λ e. omega arith))
 
 returns-3 : tie.Need-returns-3
 returns-3 c =
     let a = c .before .before .before .before .before .before .args in
-    sym (room-right (a .b) (a .lat .now) (a .room) (c .before .before .before .if1 .left)
-    ∙ list-latency (a .b) (a .lat .now) (c .before .before .if2 .left) _ (c .before .latency-fault .ensures) (c .if3 .taken))
+    sym (room-right (a .b) (a .lat .now) (a .room) (omega arith)
+    ∙ list-latency (a .b) (a .lat .now) (omega arith) _ (c .before .latency-fault .ensures) (c .if3 .taken))
 
 returns-4 : tie.Need-returns-4
 returns-4 c =
     let a = c .before .before .before .before .before .before .args in
-    sym (room-right (a .b) (a .lat .now) (a .room) (c .before .before .before .if1 .left) ∙ list-none (a .b) (a .lat .now) (c .before .before .if2 .left) (search needs))
+    sym (room-right (a .b) (a .lat .now) (a .room) (omega arith) ∙ list-none (a .b) (a .lat .now) (omega arith) (search needs))
 
 pub lent-answer-spec : {M : Type 1} → statement M
-lent-answer-spec = tie.close (tie.spec (λ c. search needs) (λ c. search needs) returns returns-2 (λ c κs. search needs) returns-3 returns-4)
+lent-answer-spec = tie.close (tie.spec (λ c. search needs) (λ c. search needs) returns returns-2 latency-fault-requires returns-3 returns-4)

@@ -19,10 +19,10 @@ abbrev μ-loop : tie.MeasureT-loop
 μ-loop n p end v₀ v = 300 - v
 
 returns : tie.Need-returns Inv-loop μ-loop
-returns c b e = sym (unfit-after b (stateOf (c .before .args .t2)) (c .if1 .taken))
+returns c b e = sym (unfit-after b (stateOf (c .before .args .t2)) (omega arith))
 
 loop-holds : tie.Need-loop-holds Inv-loop μ-loop
-loop-holds c = (search needs, search needs, search needs, below-none _)
+loop-holds c = (search needs, search needs, omega arith, below-none _)
 
 returns-2 : tie.Need-returns-2 Inv-loop μ-loop
 returns-2 c b e =
