@@ -168,9 +168,11 @@ def plays():
         print('E, first latency %d  length %d by table %d by steps %d, same starts' % (x, length, length, steps))
     full = crowded(60, 9)
     for name, b, lat in (('E', E, [1, 4, 4, 12]), ('60 instructions', full, drawn_latencies(full, 9))):
-        cycles, starts = 513 * b['head'][0], walked(b, lat)[-1][1]
-        answer = judged(b, lat, state=(cycles, starts))
-        print('%s, %d cycles, accepted %d, same starts; the next%s' % (name, cycles, cycles, said(answer)))
+        cycles, states = 513 * b['head'][0], [FIRST_STATE] + walked(b, lat)
+        states += [(k, states[-1][1]) for k in range(len(states), cycles + 1)]
+        answers = [judged(b, lat, state=state) for state in states]
+        accepted = answers[:cycles].count((0, 0))
+        print('%s, %d cycles, accepted %d, same starts; the next%s' % (name, cycles, accepted, said(answers[cycles])))
     x, tables, states, stepped, same = 9, 0, 0, 0, 0
     for k in range(300):
         b = crowded(1 + k % 60, x)

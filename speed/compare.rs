@@ -54,7 +54,7 @@ impl Tally {
 fn compare<T: Copy + PartialEq + From<u8>>(seed: &mut Seed, records: &[[u8; 512]], op: &Operation<T>) -> Tally {
     let mut tally = Tally::new(op.name, op.numbers);
     let blank: [T; MEMORY] = std::array::from_fn(|k| T::from(255 - (k % 251) as u8)); // no zero, so that one written is seen
-    for r in records {
+    for (i, r) in records.iter().enumerate() {
         let n = r[4] as usize;
         for k in 0..41 {
             let trial = if k == 0 { seed.right(r) } else { seed.trial(r) };
@@ -66,9 +66,9 @@ fn compare<T: Copy + PartialEq + From<u8>>(seed: &mut Seed, records: &[[u8; 512]
             *tally.answers.entry(x).or_default() += 1;
             if x != y || a != b || a[written..] != blank[written..] {
                 tally.differ += 1;
-                let at = (0..MEMORY).find(|&k| a[k] != b[k] || (written <= k && a[k] != blank[k]));
-                let memory = at.map_or("memory right".to_string(), |k| format!("memory wrong from {k} on"));
-                tally.first.get_or_insert(format!("ours {}, plain Rust {}, {memory}", text(x), text(y)));
+                let at = (0..MEMORY).find(|&j| a[j] != b[j] || (written <= j && a[j] != blank[j]));
+                let memory = at.map_or("memory right".to_string(), |j| format!("memory wrong from {j} on"));
+                tally.first.get_or_insert(format!("record {i}, trial {k}: ours {}, plain Rust {}, {memory}", text(x), text(y)));
             }
         }
     }

@@ -12,7 +12,7 @@ use Rattle.record.specs.declared.Answer.the-variants.{Accepted, Refused}
 use Rattle.record.specs.declared.Block.{Block}
 use Rattle.record.specs.declared.Reason.{Reason}
 use Rattle.record.specs.declared.Reason.the-variants.{Output}
-use Rattle.record.proofs.Answers.{outcome-one}
+use Rattle.record.proofs.Answers.{answered-one}
 use Rattle.record.proofs.OutputVerdicts.{Outcome, put-refused, put-output, put-done, put-fine}
 use Rattle.model.specs.Rounds.{windowTable}
 use Rattle.analysis.specs.Result.{result, analyseTests, windowTests, analysed, tabled}
@@ -41,7 +41,7 @@ module _ (b : Block) (o : List ℕ) where
 
   -- analysing has one outcome
   pub analyse-one : (x y : Answer) (p q : List ℕ) → Analyses b o x p → Analyses b o y q → (x ≡ y) × (p ≡ q)
-  analyse-one x y p q u v = outcome-one x y p q (u .answer) (u .output) (v .answer) (v .output)
+  analyse-one x y p q u v = answered-one x y p q (u .answer) (u .output) (v .answer) (v .output)
 
 -- ---- the window table
 module _ (b : Block) (o : List ℕ) (w : Whole b) where
@@ -66,4 +66,4 @@ module _ (b : Block) (o : List ℕ) where
 
   -- the window table has one outcome
   pub windows-one : (x y : Answer) (p q : List ℕ) → WritesWindows b o x p → WritesWindows b o y q → (x ≡ y) × (p ≡ q)
-  windows-one x y p q u v = outcome-one x y p q (u .answer) (u .output) (v .answer) (v .output)
+  windows-one x y p q u v = answered-one x y p q (u .answer) (u .output) (v .answer) (v .output)

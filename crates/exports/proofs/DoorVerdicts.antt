@@ -1,6 +1,6 @@
 -- What the doors answer and leave: a refused record's refusal, or that of the tests that come after the record's. Assumes
 -- nothing.
-use Prim.Native.Nat.{ℕ, suc, _-_, _≤_, _<_}
+use Prim.Native.Nat.{ℕ, _-_, _≤_, _<_}
 use mathlib.Core.Path.{_≡_, refl, sym, ap, _∙_}
 use mathlib.Core.Bool.{Bool, false}
 use mathlib.Core.List.{List, [], _∷_, _++_}
@@ -30,7 +30,7 @@ use Rattle.record.specs.declared.Reading.{Reading}
 use Rattle.record.specs.declared.Reason.{Reason}
 use Rattle.record.proofs.Verdicts.{place-none, place-zero, place-firstFault, after-accepted, after-refused, read-place}
 use Rattle.record.proofs.Answers.{number-above, refused-not}
-use Rattle.record.proofs.RoundTrips.{read-fine, read-accepted}
+use Rattle.record.proofs.RoundTrips.{reading-fine, reading-accepted}
 use Rattle.play.specs.Refusals.{wrong, listTest, latencyTest, listTests}
 use Rattle.exports.specs.Doors.{coded, Door}
 
@@ -57,21 +57,21 @@ module _ (s : List ℕ) (r : Reading) (x : Reads s r) where
           let n : verdict (readTests s) .0 ≡ numberOf q = ap (λ (v : ℕ × ℕ). v .0) (sym (x .answer) ∙ ap meaning e) in
           after-refused (readTests s) rest (numberOf q - 1) (n ∙ number-above q) ∙ sym (x .answer)
 
-      pub door-refused : Door (readTests s ++ rest) made o k o
+      pub door-refused : Door s rest made o k o
       door-refused =
           let f : accepts (meaning (r .answer)) ≡ false = rw e (refused-not q) in
-          record { answer = rw refused-verdict h; output = rw (refused-verdict, f) refl }
+          record { bytes = x .bytes; answer = rw refused-verdict h; output = rw (refused-verdict, f) refl }
 
     -- ---- a record that is accepted
     module _ (e : r .answer ≡ Accepted) where
       -- its block's own tests are passed, as the record's are
       after-record : verdict (readTests s ++ rest) ≡ verdict rest
       unfolding readTests lengthTest checkTest lettersTest headerTest entryTest
-      after-record = after-accepted (readTests s) rest refl (read-fine s r x e)
+      after-record = after-accepted (readTests s) rest refl (reading-fine s r x e)
 
       after-block : verdict (blockTests (decoded s) ++ rest) ≡ verdict rest
       unfolding blockTests headerTest entryTest
-      after-block = after-accepted (blockTests (decoded s)) rest refl (read-accepted s r x e)
+      after-block = after-accepted (blockTests (decoded s)) rest refl (reading-accepted s r x e)
 
       module _ (a : Answer) (h : meaning a ≡ verdict (blockTests (decoded s) ++ rest)) where
         pub answer-place : verdict rest .1 < 65536 → meaning a .1 < 65536
@@ -81,6 +81,6 @@ module _ (s : List ℕ) (r : Reading) (x : Reads s r) where
         door-answer k f = f ∙ ap coded (h ∙ after-block ∙ sym after-record)
 
         pub door-done : {A : Type 0} (made o o' : A) (k : ℕ) → k ≡ coded (meaning a)
-            → o' ≡ pick (accepts (verdict (blockTests (decoded s) ++ rest))) made o → Door (readTests s ++ rest) made o k o'
+            → o' ≡ pick (accepts (verdict (blockTests (decoded s) ++ rest))) made o → Door s rest made o k o'
         door-done made o o' k f g =
-            record { answer = door-answer k f; output = g ∙ (rw (after-block, after-record) refl) }
+            record { bytes = x .bytes; answer = door-answer k f; output = g ∙ (rw (after-block, after-record) refl) }

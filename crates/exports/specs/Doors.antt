@@ -8,6 +8,7 @@ use lib.Dec.{eqb, leb}
 use Rattle.lists.specs.Lists.{pick}
 use Rattle.record.specs.Layout.{decoded, encoded}
 use Rattle.record.specs.Refusals.{Test, verdict, accepts, outputTest, readTests, readVerdict}
+use Rattle.record.specs.Promises.{ByteString}
 use Rattle.model.specs.Nodes.{chosen}
 use Rattle.model.specs.Cycles.{playLength, playTable}
 use Rattle.model.specs.Rounds.{windowTable}
@@ -18,48 +19,46 @@ use Rattle.play.specs.Refusals.{listTests}
 unfoldable pub coded : ℕ × ℕ → ℕ
 coded v = v .0 * 65536 + v .1
 
--- what is promised where the tests are ts, of a number r handed back and of lent memory that held o and then holds o': at a
--- refusal "no lent byte or number is written", and else it holds what is made
-pub record Door {A : Type 0} (ts : List Test) (made o : A) (r : ℕ) (o' : A) : Type 0 where
-  pub answer : r ≡ coded (verdict ts)
-  pub output : o' ≡ pick (accepts (verdict ts)) made o
+-- "Each operation makes the tests that its inputs have": checking the bytes s makes 1 to 5; r is the number handed back
+pub record ChecksBytes (s : List ℕ) (r : ℕ) : Type 0 where
+  pub bytes : ByteString s
+  pub answer : r ≡ coded (readVerdict s)
 
--- checking the bytes s
-abbrev pub ChecksBytes : List ℕ → ℕ → Type 0
-ChecksBytes s r = r ≡ coded (readVerdict s)
+-- an operation on the bytes s that makes the tests `more` after those of the record, with the number r handed back, and lent
+-- memory that held o and then holds o': what is made, or, at a refusal, "no lent byte or number is written"
+pub record Door {A : Type 0} (s : List ℕ) (more : List Test) (made o : A) (r : ℕ) (o' : A) : Type 0 where
+  pub bytes : ByteString s
+  pub answer : r ≡ coded (verdict (readTests s ++ more))
+  pub output : o' ≡ pick (accepts (verdict (readTests s ++ more))) made o
 
--- "exactly 512 for a record"
-unfoldable pub recordTests : List ℕ → List ℕ → List Test
-recordTests s o = readTests s ++ (outputTest (eqb (length o) 512) ∷ [])
-
--- writing the record of the block that s says
-abbrev pub RecodesBytes : List ℕ → List ℕ → ℕ → List ℕ → Type 0
-RecodesBytes s o = Door (recordTests s o) (encoded (decoded s)) o
-
--- writing its result record
-abbrev pub AnalysesBytes : List ℕ → List ℕ → ℕ → List ℕ → Type 0
-AnalysesBytes s o = Door (recordTests s o) (result (decoded s)) o
+-- "Output lengths: exactly 512 for a record"
+abbrev pub recordRoom : List ℕ → List Test
+recordRoom o = outputTest (eqb (length o) 512) ∷ []
 
 -- "at least 30 × n numbers for windows"
-unfoldable pub windowsTests : List ℕ → List ℕ → List Test
-windowsTests s o = readTests s ++ (outputTest (leb (30 * decoded s .n) (length o)) ∷ [])
+abbrev pub windowsRoom : List ℕ → List ℕ → List Test
+windowsRoom s o = outputTest (leb (30 * decoded s .n) (length o)) ∷ []
 
--- writing its window table. "Numbers beyond those stay untouched."
+-- "and 15 × n for a play", and then its latency list
+abbrev pub playRoom : List ℕ → List ℕ → List ℕ → List Test
+playRoom s l o = outputTest (leb (15 * decoded s .n) (length o)) ∷ listTests (decoded s) l
+
+-- "It reads and writes block records": writing the record of the block that s says
+abbrev pub RecodesBytes : List ℕ → List ℕ → ℕ → List ℕ → Type 0
+RecodesBytes s o = Door s (recordRoom o) (encoded (decoded s)) o
+
+-- "The analysis of a block value writes its result record": that of the block that s says
+abbrev pub AnalysesBytes : List ℕ → List ℕ → ℕ → List ℕ → Type 0
+AnalysesBytes s o = Door s (recordRoom o) (result (decoded s)) o
+
+-- "the window table is a second operation on the same value"; "Numbers beyond those stay untouched."
 abbrev pub WindowsBytes : List ℕ → List ℕ → ℕ → List ℕ → Type 0
-WindowsBytes s o = Door (windowsTests s o) (windowTable (decoded s) ++ drop (30 * decoded s .n) o) o
+WindowsBytes s o = Door s (windowsRoom s o) (windowTable (decoded s) ++ drop (30 * decoded s .n) o) o
 
--- "and 15 × n for a play"
-unfoldable pub tableTests : List ℕ → List ℕ → List ℕ → List Test
-tableTests s l o = readTests s ++ (outputTest (leb (15 * decoded s .n) (length o)) ∷ listTests (decoded s) l)
-
--- writing its play table under the latencies l
+-- "plays a block cycle by cycle under chosen latencies": the play table under the latencies l
 abbrev pub PlaysBytes : List ℕ → List ℕ → List ℕ → ℕ → List ℕ → Type 0
-PlaysBytes s l o = Door (tableTests s l o) (playTable (decoded s) (chosen (decoded s) l) ++ drop (15 * decoded s .n) o) o
+PlaysBytes s l o = Door s (playRoom s l o) (playTable (decoded s) (chosen (decoded s) l) ++ drop (15 * decoded s .n) o) o
 
--- the length has no output whose length could be wrong
-unfoldable pub playLengthTests : List ℕ → List ℕ → List Test
-playLengthTests s l = readTests s ++ listTests (decoded s) l
-
--- writing its play's length to one number, which was o
-abbrev pub PlayLengthOfBytes : List ℕ → List ℕ → ℕ → ℕ → ℕ → Type 0
-PlayLengthOfBytes s l o = Door (playLengthTests s l) (playLength (decoded s) (chosen (decoded s) l)) o
+-- "its length is CM(n−1)'s finish.", to one number, which was o: there is no output whose length could be wrong
+abbrev pub PlayLengthBytes : List ℕ → List ℕ → ℕ → ℕ → ℕ → Type 0
+PlayLengthBytes s l o = Door s (listTests (decoded s) l) (playLength (decoded s) (chosen (decoded s) l)) o

@@ -3,7 +3,7 @@
 ghost use mathlib.Core.Path.{_≡_};
 ghost use Prim.Native.Nat.{_<_};
 ghost use Rattle.record.specs.Refusals.{meaning};
-ghost use Rattle.exports.specs.Doors.{coded, ChecksBytes, RecodesBytes, AnalysesBytes, WindowsBytes, PlaysBytes, PlayLengthOfBytes};
+ghost use Rattle.exports.specs.Doors.{coded, ChecksBytes, RecodesBytes, AnalysesBytes, WindowsBytes, PlaysBytes, PlayLengthBytes};
 use record::Answer;
 
 // A refusal's number and place as one number.
@@ -90,7 +90,7 @@ pub extern "C" fn bench_play(s: &[u8], lat: &[u8], out: &mut [u16]) -> u32
 // Reads a record and writes the length of the play of what it read under the latencies of a list, to one number.
 #[no_mangle]
 pub extern "C" fn bench_play_length(s: &[u8], lat: &[u8], out: &mut u16) -> u32
-    ensures { λ r. ⌜ PlayLengthOfBytes (now (s .entry)) (now (lat .entry)) (now (out .entry)) r (now (out .exit)) ⌝ }
+    ensures { λ r. ⌜ PlayLengthBytes (now (s .entry)) (now (lat .entry)) (now (out .entry)) r (now (out .exit)) ⌝ }
 {
     let r = record::read(s);
     let answer = r.answer;
@@ -99,9 +99,9 @@ pub extern "C" fn bench_play_length(s: &[u8], lat: &[u8], out: &mut u16) -> u32
         Answer::Refused(_) => one_number(answer),
         Answer::Accepted => {
             let l = play::play_length(b, lat);
-            let lent = l.answer;
-            match lent {
-                Answer::Refused(_) => one_number(lent),
+            let played = l.answer;
+            match played {
+                Answer::Refused(_) => one_number(played),
                 Answer::Accepted => {
                     *out = l.cycles;
                     0

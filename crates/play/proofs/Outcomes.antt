@@ -1,7 +1,7 @@
 -- The outcomes of the operations of the play, by the first test that fails; each promise leaves one. Assumes nothing.
 use Prim.Native.Nat.{ℕ, _*_, _≤_}
 use mathlib.Core.Path.{_≡_, refl, sym, ap, _∙_}
-use mathlib.Core.Bool.{true, false, not}
+use mathlib.Core.Bool.{true, false}
 use mathlib.Core.List.{List, [], _∷_, _++_, append-assoc}
 use native.Mathlib.Omega.{arith}
 use lib.ListN.{length, drop}
@@ -16,7 +16,7 @@ use Rattle.record.specs.declared.Block.{Block}
 use Rattle.record.specs.declared.Reason.{Reason}
 use Rattle.record.specs.declared.Reason.the-variants.{State as StateReason}
 use Rattle.record.proofs.Verdicts.{none, refuse, pass, passed, both-accepted, after-accepted, after-refused}
-use Rattle.record.proofs.Answers.{number-above, refused-not, outcome-one}
+use Rattle.record.proofs.Answers.{number-above, refused-not, answered-one}
 use Rattle.model.specs.Nodes.{chosen}
 use Rattle.model.specs.Cycles.{State, firstState, cycle, unfit, playLength, playTable}
 use Rattle.unpacked.proofs.BlockColumns.{few}
@@ -91,7 +91,7 @@ module _ (b : Block) (l : List ℕ) where
   -- asking for the length has one outcome
   pub length-one : (x y : PlayLength) → GivesPlayLength b l x → GivesPlayLength b l y → x ≡ y
   length-one x y p q =
-      let o = outcome-one (x .answer) (y .answer) (x .cycles) (y .cycles) (p .answer) (p .cycles) (q .answer) (q .cycles) in
+      let o = answered-one (x .answer) (y .answer) (x .cycles) (y .cycles) (p .answer) (p .cycles) (q .answer) (q .cycles) in
       ap (λ (a : Answer). lastingOf a (x .cycles)) (o .0) ∙ ap (λ (k : ℕ). lastingOf (y .answer) k) (o .1)
 
 -- ---- one cycle
@@ -137,7 +137,7 @@ module _ (b : Block) (l : List ℕ) (p : PlayState) where
   -- a cycle has one outcome
   pub cycle-one : (x y : Step) → PlaysCycle b l p x → PlaysCycle b l p y → x ≡ y
   cycle-one x y u v =
-      let o = outcome-one (x .answer) (y .answer) (stateOf (x .state)) (stateOf (y .state)) (u .answer) (u .state) (v .answer) (v .state) in
+      let o = answered-one (x .answer) (y .answer) (stateOf (x .state)) (stateOf (y .state)) (u .answer) (u .state) (v .answer) (v .state) in
       ap (λ (a : Answer). stepOf a (x .state)) (o .0) ∙ ap (λ (s : PlayState). stepOf (y .answer) s) (state-one (x .state) (y .state) (o .1))
 
 -- ---- the play table
@@ -184,4 +184,4 @@ module _ (b : Block) (l o : List ℕ) where
 
   -- playing has one outcome
   pub play-one : (x y : Answer) (p q : List ℕ) → Plays b l o x p → Plays b l o y q → (x ≡ y) × (p ≡ q)
-  play-one x y p q u v = outcome-one x y p q (u .answer) (u .output) (v .answer) (v .output)
+  play-one x y p q u v = answered-one x y p q (u .answer) (u .output) (v .answer) (v .output)

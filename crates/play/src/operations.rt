@@ -2,12 +2,12 @@
 ghost use mathlib.Core.Path.{_≡_};
 ghost use mathlib.Core.Bool.{false};
 ghost use mathlib.Core.List.{_++_};
-ghost use Prim.Native.Nat.{ℕ, _*_, _≤_, _<_};
+ghost use Prim.Native.Nat.{_*_, _≤_};
 ghost use lib.ListN.{length, drop};
 ghost use Rattle.record.specs.Refusals.{meaning, blockVerdict, verdict};
 ghost use Rattle.record.specs.Promises.{Whole};
-ghost use Rattle.model.specs.Nodes.{nodes, chosen};
-ghost use Rattle.model.specs.Cycles.{finish, firstState, cycle, play, playTable, unfit};
+ghost use Rattle.model.specs.Nodes.{chosen};
+ghost use Rattle.model.specs.Cycles.{firstState, cycle, play, playTable, unfit};
 ghost use Rattle.play.specs.Refusals.{listTests, lengthTests};
 ghost use Rattle.play.specs.Promises.{stateOf, PlaysCycle, Plays, GivesPlayLength};
 use crate::PlayLength;
@@ -76,7 +76,7 @@ pub fn play(b: Block, lat: &[u8], out: &mut [u16]) -> Answer
     }
 }
 
-// Tests 4, 5, 7 and 8: for the output's there is room enough, since no block needs more than 900 numbers.
+// Tests 4, 5, 7 and 8. There is no output: test 6 is given room enough for every block, 900 numbers.
 fn both_answer(b: Block, lat: &[u8]) -> Answer
     ensures { λ r. ⌜ (meaning r ≡ verdict (lengthTests b (now (lat .entry)))) × Whole b ⌝ }
 {

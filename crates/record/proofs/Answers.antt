@@ -7,7 +7,7 @@ use native.Mathlib.Omega.{arith}
 use lib.Dec.{eqb}
 use borrow.Author.Tests.{ne-eqb}
 use Rattle.lists.proofs.OneOutcome.{one-value}
-use Rattle.record.specs.Refusals.{numberOf, placeOf, meaning, readVerdict, readBlock, blockVerdict}
+use Rattle.record.specs.Refusals.{numberOf, placeOf, meaning, readVerdict, readBlock}
 use Rattle.record.specs.Layout.{noBlock, decoded}
 use Rattle.record.specs.Promises.{ByteString, Reads, TestsBlock, Writes}
 use Rattle.record.specs.declared.Answer.{Answer}
@@ -66,8 +66,8 @@ pub accepted-so : (a : Answer) {v : ℕ × ℕ} → a ≡ Accepted → meaning a
 accepted-so a e h = sym h ∙ ap meaning e
 
 -- two outcomes, an answer and a value each, that mean one verdict and are one value
-pub outcome-one : {A : Type 0} (a b : Answer) (x y : A) {v : ℕ × ℕ} {z : A} → meaning a ≡ v → x ≡ z → meaning b ≡ v → y ≡ z → (a ≡ b) × (x ≡ y)
-outcome-one a b x y p e q f = (meaning-one a b (one-value (meaning a) (meaning b) p q), one-value x y e f)
+pub answered-one : {A : Type 0} (a b : Answer) (x y : A) {v : ℕ × ℕ} {z : A} → meaning a ≡ v → x ≡ z → meaning b ≡ v → y ≡ z → (a ≡ b) × (x ≡ y)
+answered-one a b x y p e q f = (meaning-one a b (one-value (meaning a) (meaning b) p q), one-value x y e f)
 
 -- the number and the place of a reason have one outcome each
 pub number-one : (r : Reason) (x y : ℕ) → x ≡ numberOf r → y ≡ numberOf r → x ≡ y
@@ -82,7 +82,7 @@ reading a b = record { answer = a; block = b }
 -- reading has one outcome
 pub read-one : (s : List ℕ) (x y : Reading) → Reads s x → Reads s y → x ≡ y
 read-one s x y p q =
-    let o = outcome-one (x .answer) (y .answer) (x .block) (y .block) (p .answer) (p .block) (q .answer) (q .block) in
+    let o = answered-one (x .answer) (y .answer) (x .block) (y .block) (p .answer) (p .block) (q .answer) (q .block) in
     ap (λ (a : Answer). reading a (x .block)) (o .0) ∙ ap (λ (b : Block). reading (y .answer) b) (o .1)
 
 -- testing a block value has one outcome
@@ -91,7 +91,7 @@ block-one b x y p q = meaning-one x y (one-value (meaning x) (meaning y) (p .ans
 
 -- writing has one outcome
 pub write-one : (b : Block) (o : List ℕ) (x y : Answer) (p q : List ℕ) → Writes b o x p → Writes b o y q → (x ≡ y) × (p ≡ q)
-write-one b o x y p q u v = outcome-one x y p q (u .answer) (u .output) (v .answer) (v .output)
+write-one b o x y p q u v = answered-one x y p q (u .answer) (u .output) (v .answer) (v .output)
 
 -- a reading that refuses by a reason whose number and place are the record's, and one that accepts
 module _ (s : List ℕ) (x : Reading) (u : ByteString s) where

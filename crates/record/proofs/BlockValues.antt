@@ -28,7 +28,7 @@ zero-bytes =
     record { kind = omega arith; lo = omega arith; hi = omega arith; writes = omega arith; reads1 = omega arith; reads2 = omega arith }
 
 -- entries as the machine has them
-abbrev pub Known : List Entry → Type 0
+abbrev Known : List Entry → Type 0
 Known es = WT (laws.the-laws .1 .1 .1 .1 .1 .1 .1 .1 .0 .val (map (λ (e : Entry). (e .kind, (e .lo, (e .hi, (e .writes, (e .reads1, (e .reads2, Prim.tt {0}))))))) es))
 
 -- each of them is six bytes
@@ -60,7 +60,7 @@ module _ (s : List ℕ) (u : ByteString s) where
         reads2 = omega (arith, u .byte (at i + 5));
       }
 
-  decoded-whole : Whole (decoded s)
+  pub decoded-whole : Whole (decoded s)
   unfolding decoded
   decoded-whole =
       record {

@@ -28,7 +28,7 @@ use Rattle.record.specs.declared.Reading.{Reading}
 use Rattle.record.proofs.CheckByWord.{check-ext}
 use Rattle.record.proofs.EntryRules.{last-two}
 use Rattle.record.proofs.RecordBytes.{length-encoded, head-byte, entry-byte, check-same, check-byte, check-stored, outside-head}
-use Rattle.record.proofs.Verdicts.{Fine, fine, read-fine as verdict-fine}
+use Rattle.record.proofs.Verdicts.{Fine, fine, read-fine}
 use Rattle.record.proofs.OutputVerdicts.{head-walk, block-none, block-fine, write-fine, write-done}
 use Rattle.record.proofs.Answers.{meaning-one, accepted-so, write-one}
 
@@ -79,7 +79,7 @@ module _ (b : Block) where
       let same : least 0 28 (outside (headBytes b)) ≡ least 0 28 (outside (encoded b))
       = least-ext 0 28 (outside (headBytes b)) (outside (encoded b)) (λ k _ h. outside-head b k h) in
       let r : readVerdict (encoded b) ≡ (0, 0)
-      = verdict-fine (encoded b) (length-encoded b) (check-same b ∙ sym (check-stored b)) (least 0 28 (outside (encoded b))) refl (omega (arith, same, head-walk b, f .0)) (f .1) in
+      = read-fine (encoded b) (length-encoded b) (check-same b ∙ sym (check-stored b)) (least 0 28 (outside (encoded b))) refl (omega (arith, same, head-walk b, f .0)) (f .1) in
       (r, rw r (decoded-encoded v))
 
 -- ---- from a record to its block and back
@@ -171,15 +171,15 @@ written-is b o z = rw z refl
 
 -- what an accepted reading gives: the bytes are accepted, the block is theirs, and it is accepted too
 module _ (s : List ℕ) (r : Reading) (x : Reads s r) (e : r .answer ≡ Accepted) where
-  pub read-fine : readVerdict s ≡ (0, 0)
-  read-fine = accepted-so (r .answer) e (x .answer)
+  pub reading-fine : readVerdict s ≡ (0, 0)
+  reading-fine = accepted-so (r .answer) e (x .answer)
 
-  pub read-decoded : r .block ≡ decoded s
+  pub reading-decoded : r .block ≡ decoded s
   unfolding readBlock
-  read-decoded = x .block ∙ (rw read-fine refl)
+  reading-decoded = x .block ∙ (rw reading-fine refl)
 
-  pub read-accepted : blockVerdict (decoded s) ≡ (0, 0)
-  read-accepted = block-decoded s (x .bytes) (fine s read-fine)
+  pub reading-accepted : blockVerdict (decoded s) ≡ (0, 0)
+  reading-accepted = block-decoded s (x .bytes) (fine s reading-fine)
 
 -- whatever writing an accepted block leaves in the output, reading it accepts and gives the block back
 pub read-written : (b : Block) (o p : List ℕ) (a : Answer) (r : Reading) → Writes b o a p → a ≡ Accepted → Reads p r → (r .answer ≡ Accepted) × (r .block ≡ b)
@@ -192,7 +192,7 @@ read-written b o p a r w e x =
 -- whatever reading an accepted byte string gives, writing it to 512 bytes accepts and gives the byte string back
 pub written-read : (s o p : List ℕ) (a : Answer) (r : Reading) → Reads s r → r .answer ≡ Accepted → length o ≡ 512 → Writes (r .block) o a p → (a ≡ Accepted) × (p ≡ s)
 written-read s o p a r x e l w =
-    let v : Writes (decoded s) o a p = rw (read-decoded s r x e) at w in
-    let same = encoded-decoded s (x .bytes) (fine s (read-fine s r x e)) in
-    let d = write-done (decoded s) o (v .whole) (read-accepted s r x e) l s (sym same) in
+    let v : Writes (decoded s) o a p = rw (reading-decoded s r x e) at w in
+    let same = encoded-decoded s (x .bytes) (fine s (reading-fine s r x e)) in
+    let d = write-done (decoded s) o (v .whole) (reading-accepted s r x e) l s (sym same) in
     write-one (decoded s) o a Accepted p s v d

@@ -143,7 +143,7 @@ module _ (s : List ℕ) (l : length s ≡ 512) (k : checkOf s ≡ little 4 s 508
   unfolding readTests entryTest
   read-fine a b = past-header a _ ∙ pass-firstFault 5 0 60 (broken s) [] b ∙ none
 
--- its place is below 60, whatever tests come after
+-- the place is below x, 60 or more, where that of the tests that come after is
 pub read-place : (s : List ℕ) (x : ℕ) (ts : List Test) → 60 ≤ x → verdict ts .1 < x → verdict (readTests s ++ ts) .1 < x
 unfolding readTests lengthTest checkTest lettersTest headerTest entryTest
 read-place s x ts h r =

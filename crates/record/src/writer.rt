@@ -22,7 +22,7 @@ use crate::check::seal;
 use crate::rules::entry_ok;
 use crate::rules::header_fault;
 
-// The header's bytes; and what every block value is.
+// The header's bytes. The promise also says what every block value is: the machine tells it where a field is computed with.
 fn head_bytes(b: Block) -> [u8; 28]
     ensures { λ r. ⌜ (r ≡ headBytes b) × Whole b ⌝ }
 {

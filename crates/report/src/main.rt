@@ -9,7 +9,7 @@ fn complain(what: &[u8]) {
 }
 
 // Writes a text. Says so where that fails, and gives whether it was done.
-fn put(text: &[u8]) -> bool {
+fn print(text: &[u8]) -> bool {
     let done = io::write_all(STDOUT_FILENO, text);
     if !done {
         complain(b"report: the output broke off\n");
@@ -36,7 +36,7 @@ fn piece_on(piece: u32) -> bool {
     let got = io::read_full(STDIN_FILENO, &mut bytes);
     let mut text = room();
     let n = report_lines::lines_into(&bytes[..got], piece, &mut text);
-    if !put(&text[..n]) {
+    if !print(&text[..n]) {
         return false;
     }
     if got < 65536 {
@@ -48,7 +48,7 @@ fn piece_on(piece: u32) -> bool {
 
 fn main() {
     let head = report_lines::header();
-    if !put(&head) {
+    if !print(&head) {
         return;
     }
     for piece in 0..u32::MAX {

@@ -1,6 +1,6 @@
 // The line of a record, and the lines of a piece of an archive.
 ghost use mathlib.Core.Path.{_≡_};
-ghost use mathlib.Core.List.{[], _∷_};
+ghost use mathlib.Core.List.{_∷_};
 ghost use Prim.Native.Nat.{_+_, _*_, _≤_, min};
 ghost use lib.ListN.{length, take};
 ghost use Rattle.io.specs.Counts.{Counts};
@@ -68,7 +68,7 @@ fn counts_into(s: &[u8; 512], at: usize, out: &mut [u8]) -> usize
     number_into(two_at(s, 16), b'\n', a3, out)
 }
 
-// The result record of an accepted block; and what every block value is.
+// The result record of an accepted block. The promise also says what every block value is.
 fn result_of(b: Block) -> [u8; 512]
     requires { ⌜ blockVerdict b ≡ (0, 0) ⌝ }
     ensures { λ r. ⌜ (r ≡ result b) × Whole b ⌝ }

@@ -101,18 +101,19 @@ module _ (b : Block) (l : List ℕ) where
   pub steps-play : (k : ℕ) (p : PlayState) → Steps b l k p → (p .t ≡ k) × (p .starts ≡ playOn k b (chosen b l) firstState .starts)
   steps-play = stepping-play b l
 
-  -- none of the first 513 n is refused, and after them the starts are those of the play
-  module _ (accepted : AcceptedBlock b) (listed : AcceptedList b l) where
-    pub steps-accepted : (k : ℕ) → k < 513 * b .n → (p : PlayState) → Steps b l k p → (r : Step) → PlaysCycle b l p r → r .answer ≡ Accepted
-    steps-accepted = stepping-accepted b accepted l listed
-
-    pub steps-table : (p : PlayState) → Steps b l (513 * b .n) p → p .starts ≡ play b (chosen b l)
-    steps-table = stepping-table b accepted l listed
+  -- after 513 n of them the starts are those of the play
+  pub steps-table : (p : PlayState) → Steps b l (513 * b .n) p → p .starts ≡ play b (chosen b l)
+  steps-table = stepping-table b l
 
   -- so they are those that a play writes
   pub steps-written : (o o' : List ℕ) (a : Answer) → Plays b l o a o' → a ≡ Accepted → (p : PlayState) → Steps b l (513 * b .n) p
       → (v : ℕ) → v < nodes b → getD (p .starts) v 0 ≡ getD o' (3 * v + 1) 0
   steps-written = stepping-written b l
+
+-- and none of them is refused: before the first, the verdicts on block and list have to be given
+pub steps-accepted : (b : Block) → AcceptedBlock b → (l : List ℕ) → AcceptedList b l → (k : ℕ) → k < 513 * b .n → (p : PlayState) → Steps b l k p
+    → (r : Step) → PlaysCycle b l p r → r .answer ≡ Accepted
+steps-accepted = stepping-accepted
 
 -- ---- "Prove: rounds are at most contending pairs plus 1; no time exceeds 513 × n, so 30,780."
 pub rounds-most : (b : Block) → roundCount b ≤ pairCount b + 1

@@ -8,6 +8,7 @@ pub mod ResultBytes
 pub mod OutcomesInside
 pub mod Stepping
 pub mod RecordTimes
+pub mod FromBytes
 pub mod LongestLatencies
 pub mod Demand
 pub mod Assessor

@@ -26,13 +26,13 @@ use Rattle.model.specs.Nodes.{nodes, chosen}
 use Rattle.model.specs.Cycles.{State, notStarted, start, unfit, turns, cycle, firstState, allStarted, playOn, play, threeTimes}
 use Rattle.model.proofs.TableNumbers.{play-at}
 use Rattle.schedules.proofs.CycleTurns.{Known, begun as begun-turn, turns-length, turns-later, turns-below}
-use Rattle.schedules.proofs.PlaySchedule.{allStarted-each, each-allStarted}
+use Rattle.schedules.proofs.PlaySchedule.{allStarted-each, each-allStarted, allStarted-stays}
 use Rattle.play.specs.Refusals.{listTest, latencyTest, stateTest, listTests, cycleTests}
 use Rattle.play.specs.Promises.{stateOf, stepped, PlaysCycle, Plays}
 use Rattle.play.specs.inside.NodeTurn.{unfitAt}
 use Rattle.play.specs.declared.PlayState.{PlayState}
 use Rattle.play.specs.declared.Step.{Step}
-use Rattle.play.proofs.Outcomes.{play-fine}
+use Rattle.play.proofs.Outcomes.{cycle-fine}
 use Rattle.play.proofs.QuietCycles.{turns-skip, started-stays}
 use Rattle.play.proofs.UnfitStates.{unfit-none}
 use Rattle.theorems.specs.Words.{AcceptedBlock, AcceptedList, Steps, begun, on}
@@ -183,22 +183,38 @@ module _ (b : Block) (accepted : AcceptedBlock b) (l : List ℕ) (listed : Accep
 
 -- ---- after 513 n cycles the starts are those of the play
 
--- the promise of a cycle says that the block is whole
-steps-whole : (b : Block) (l : List ℕ) {k : ℕ} {p : PlayState} → 0 < k → Steps b l k p → Whole b
-steps-whole b l h (begun e) = absurd (omega arith)
-steps-whole b l h (on s x e f) = x .whole
+-- what an accepted cycle says of the block and of the list
+record Fit (b : Block) (l : List ℕ) : Type 0 where
+  whole : Whole b
+  accepted : AcceptedBlock b
+  listed : AcceptedList b l
 
-pub steps-table : (b : Block) → AcceptedBlock b → (l : List ℕ) → AcceptedList b l → (p : PlayState) → Steps b l (513 * b .n) p → p .starts ≡ play b (chosen b l)
-steps-table b accepted l listed p s =
-    let some : 0 < 513 * b .n = omega (arith, ranges b accepted .n .0) in
-    let whole = steps-whole b l some s in
-    steps-play b l (513 * b .n) p s .1 ∙ sym (last-play b accepted (λ i. whole .each i .hi) (chosen b l) (chosen-fits b accepted l listed))
+steps-fit : (b : Block) (l : List ℕ) {k : ℕ} {p : PlayState} → 0 < k → Steps b l k p → Fit b l
+steps-fit b l h (begun e) = absurd (omega arith)
+steps-fit b l h (on {k} {p} {q} {r} s x e f) =
+    let c = cycle-fine b l p (accepted-so (r .answer) e (x .answer)) in
+    record { whole = x .whole; accepted = c .0; listed = c .1 }
+
+-- a block of no instructions has all started from the first
+none-started : (b : Block) (lat : ℕ → ℕ) → b .n ≤ 0 → (k : ℕ) → playOn k b lat firstState ≡ firstState
+none-started b lat h k = allStarted-stays b lat k firstState (each-allStarted b firstState (λ v l. absurd (omega arith)))
+
+pub steps-table : (b : Block) (l : List ℕ) (p : PlayState) → Steps b l (513 * b .n) p → p .starts ≡ play b (chosen b l)
+unfolding play
+steps-table b l p s =
+    steps-play b l (513 * b .n) p s .1
+    ∙ by-test (ltb 0 (b .n))
+    (λ t.
+    let x = steps-fit b l (omega (arith, ltb-true 0 (b .n) t)) s in
+    sym (last-play b (x .accepted) (λ i. x .whole .each i .hi) (chosen b l) (chosen-fits b (x .accepted) l (x .listed))))
+    (λ t.
+    let few = ltb-false 0 (b .n) t in
+    ap (λ (q : State). q .starts) (none-started b (chosen b l) few (513 * b .n) ∙ sym (none-started b (chosen b l) few 30780)))
 
 -- and those that a play writes
 pub steps-written : (b : Block) (l o o' : List ℕ) (a : Answer) → Plays b l o a o' → a ≡ Accepted → (p : PlayState) → Steps b l (513 * b .n) p
     → (v : ℕ) → v < nodes b → getD (p .starts) v 0 ≡ getD o' (3 * v + 1) 0
 unfolding threeTimes
 steps-written b l o o' a x e p s v h =
-    let fine = play-fine b l o (accepted-so a e (x .answer)) in
-    ap (λ (q : List ℕ). getD q v 0) (steps-table b (fine .0) l (fine .2) p s)
+    ap (λ (q : List ℕ). getD q v 0) (steps-table b l p s)
     ∙ sym (play-kept b l o o' a x e (3 * v + 1) (omega arith) ∙ play-at b (chosen b l) v 1 h (omega arith))

@@ -1,5 +1,6 @@
 -- "How much each promise has to say", demand 3, and "Plausible errors to shut out": the words of the theorems. Which blocks and
--- latency lists they speak of, and what it is to be inside a window, in time, and later than under the highest latencies.
+-- latency lists they speak of, and what it is to be inside a window, in time, and later than under the highest latencies; to be
+-- reached by steps, and to keep the times of a result record.
 use Prim.Native.Nat.{ℕ, zero, suc, _+_, _*_, _≤_, _<_}
 use mathlib.Core.Path.{_≡_}
 use mathlib.Core.Bool.{true}

@@ -10,7 +10,9 @@ one-number-requires : tie.Need-one-number-requires
 one-number-requires c κs = reading-place _ _ (c .read .ensures)
 
 returns : tie.Need-returns
-returns c = c .one-number .ensures ∙ ap coded (c .before .read .ensures .answer)
+returns c =
+    let r = c .before .read .ensures in
+    record { bytes = r .bytes; answer = c .one-number .ensures ∙ ap coded (r .answer) }
 
 pub bench-check-spec : {M : Type 1} → statement M
 bench-check-spec = tie.close (tie.spec (λ c κs. search needs) one-number-requires returns)

@@ -1,7 +1,6 @@
 -- `exports::bench_play_length` meets its contract, by what the reader and the play promise. Assumes nothing.
-use Rattle.exports.specs.Doors.{playLengthTests}
 use Rattle.exports.proofs.DoorVerdicts.{reading-place, door-refused}
-use Rattle.exports.proofs.OperationDoors.{length-place, length-refused, length-done}
+use Rattle.exports.proofs.OperationDoors.{length-place, length-kept, length-given}
 use borrow.Author.Needs.{needs}
 use Rattle.exports.proofs.bench_play_length.Statement.{statement}
 use Rattle.exports.proofs.bench_play_length.Tie as tie
@@ -23,7 +22,6 @@ one-number-requires-2 c κs =
     length-place _ _ (read-of told .read .ensures) (told .enum-told2 .given .1) _ _ (call .play-length .ensures)
 
 returns : tie.Need-returns
-unfolding playLengthTests
 returns c =
     let told = c .before .enum-told .given in
     door-refused _ _ (c .before .before .before .before .read .ensures) _ _ _ (told .0 .0) _ (told .1) (c .one-number .ensures)
@@ -33,14 +31,14 @@ returns-2 c =
     let refused = c .before .enum-told3 .given in
     let call = c .before .before .before in
     let told = told-of call in
-    let door = length-refused _ _ (read-of told .read .ensures) (told .enum-told2 .given .1) _ _ (call .play-length .ensures) in
+    let door = length-kept _ _ (read-of told .read .ensures) (told .enum-told2 .given .1) _ _ (call .play-length .ensures) in
     door _ (refused .0 .0) (refused .1) _ (c .one-number2 .ensures)
 
 returns-3 : tie.Need-returns-3
 returns-3 c =
     let call = c .before .before in
     let told = told-of call in
-    length-done _ _ (read-of told .read .ensures) (told .enum-told2 .given .1) _ _ (call .play-length .ensures) _ (c .enum-told4 .given .1)
+    length-given _ _ (read-of told .read .ensures) (told .enum-told2 .given .1) _ _ (call .play-length .ensures) _ (c .enum-told4 .given .1)
 
 pub bench-play-length-spec : {M : Type 1} → statement M
 bench-play-length-spec =

@@ -1,5 +1,4 @@
 -- `exports::bench_recode` meets its contract, by what the reader and the operation promise. Assumes nothing.
-use Rattle.exports.specs.Doors.{recordTests}
 use Rattle.exports.proofs.DoorVerdicts.{reading-place, door-refused}
 use Rattle.exports.proofs.OperationDoors.{recode-place, recode-door}
 use borrow.Author.Needs.{needs}
@@ -23,7 +22,6 @@ one-number-requires-2 c κs =
     recode-place _ _ (read-of told .read .ensures) (told .enum-told2 .given .1) _ _ _ (call .write .ensures)
 
 returns : tie.Need-returns
-unfolding recordTests
 returns c =
     let told = c .before .enum-told .given in
     door-refused _ _ (c .before .before .before .before .read .ensures) _ _ _ (told .0 .0) _ (told .1) (c .one-number .ensures)

@@ -1,6 +1,6 @@
 -- `exports::one_number` meets its contract. Assumes nothing.
 use mathlib.Core.Path.{_≡_, refl, sym, ap, _∙_}
-use Prim.Native.Nat.{_*_, _<_}
+use Prim.Native.Nat.{_<_}
 use native.Mathlib.Omega.{arith}
 use Rattle.record.specs.Refusals.{meaning}
 use Rattle.exports.specs.Doors.{coded}

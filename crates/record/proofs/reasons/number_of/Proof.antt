@@ -1,4 +1,5 @@
--- `record::reasons::number_of` meets its contract: the sixth arm, of an output of the wrong length, gives 6. Assumes nothing.
+-- `record::reasons::number_of` meets its contract. One answer is written out, that of an output of the wrong length, so that a
+-- wrong number there is named by its fact. Assumes nothing.
 use mathlib.Core.Path.{refl}
 use borrow.Author.Needs.{needs}
 use Rattle.record.proofs.reasons.number_of.Statement.{statement}

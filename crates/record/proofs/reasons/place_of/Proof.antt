@@ -1,4 +1,5 @@
--- `record::reasons::place_of` meets its contract: the sixth arm, of wrong letters, gives 0. Assumes nothing.
+-- `record::reasons::place_of` meets its contract. One answer is written out, that of wrong letters, so that a wrong place there
+-- is named by its fact. Assumes nothing.
 use mathlib.Core.Path.{refl}
 use borrow.Author.Needs.{needs}
 use Rattle.record.proofs.reasons.place_of.Statement.{statement}

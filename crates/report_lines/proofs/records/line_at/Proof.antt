@@ -1,7 +1,7 @@
 -- `report_lines::records::line_at` meets its contract. Assumes nothing.
 use mathlib.Core.Path.{_≡_, refl, _∙_}
 use native.Mathlib.Omega.{arith}
-use Rattle.record.proofs.RoundTrips.{read-decoded, read-accepted}
+use Rattle.record.proofs.RoundTrips.{reading-decoded, reading-accepted}
 use Rattle.report_lines.specs.Report.{line, blockLine, refusalLine}
 use Rattle.report_lines.proofs.RecordLine.{line-accepted, line-refused}
 use borrow.Author.Needs.{needs}
@@ -12,7 +12,7 @@ block-into-requires : tie.Need-block-into-requires
 block-into-requires c κs =
     let r = c .before .before .before .before .read in
     let e = c .before .enum-told .given .1 in
-    (rw (read-decoded _ _ (r .ensures) e) (read-accepted _ _ (r .ensures) e), search needs)
+    (rw (reading-decoded _ _ (r .ensures) e) (reading-accepted _ _ (r .ensures) e), search needs)
 
 returns : tie.Need-returns
 returns c =
