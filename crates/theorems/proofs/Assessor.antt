@@ -61,7 +61,8 @@ no-endless-wait b whole accepted l listed i h =
 
 -- the same of the numbers written: EX's start in what a play writes, and its latest start in what `windows` writes
 pub outcomes-wait : (b : Block) (l o o' : List ℕ) (a : Answer) → WritesWindows b o a o' → a ≡ Accepted
-    → (q q' : List ℕ) (c : Answer) → Plays b l q c q' → c ≡ Accepted → (i : ℕ) → i < b .n → (getD q' (3 * node EX i + 1) 0 ≤ getD o' (6 * node EX i + 4) 0) × (getD o' (6 * node EX i + 4) 0 < 513 * b .n)
+    → (q q' : List ℕ) (c : Answer) → Plays b l q c q' → c ≡ Accepted → (i : ℕ) → i < b .n
+    → (getD q' (3 * node EX i + 1) 0 ≤ getD o' (6 * node EX i + 4) 0) × (getD o' (6 * node EX i + 4) 0 < 513 * b .n)
 unfolding threeTimes
 outcomes-wait b l o o' a x e q q' c y f i h =
     let v : node EX i < nodes b = omega arith in
