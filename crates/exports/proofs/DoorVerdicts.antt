@@ -35,6 +35,9 @@ use Rattle.play.specs.Refusals.{wrong, listTest, latencyTest, listTests}
 use Rattle.exports.specs.Doors.{coded, Door}
 
 -- ---- places have 16 bits
+pub none-place : verdict [] .1 < 65536
+none-place = place-none 65536 (omega arith)
+
 pub output-place : (right : Bool) (ts : List Test) → verdict ts .1 < 65536 → verdict (outputTest right ∷ ts) .1 < 65536
 unfolding outputTest
 output-place right ts h = place-zero 65536 6 _ ts (omega arith) h
@@ -42,12 +45,12 @@ output-place right ts h = place-zero 65536 6 _ ts (omega arith) h
 pub list-place : (b : Block) (l : List ℕ) → b .n ≤ 255 → verdict (listTests b l) .1 < 65536
 unfolding listTests listTest latencyTest
 list-place b l h =
-    place-zero 65536 7 _ _ (omega arith) (place-firstFault 65536 8 0 (b .n) (wrong b l) [] (omega arith) (place-none 65536 (omega arith)))
+    place-zero 65536 7 _ _ (omega arith) (place-firstFault 65536 8 0 (b .n) (wrong b l) [] (omega arith) none-place)
 
 module _ (s : List ℕ) (r : Reading) (x : Reads s r) where
   pub reading-place : meaning (r .answer) .1 < 65536
   unfolding readTests lengthTest checkTest lettersTest headerTest entryTest
-  reading-place = rw (x .answer) (read-place s 65536 [] (omega arith) (place-none 65536 (omega arith)))
+  reading-place = rw (x .answer) (read-place s 65536 [] (omega arith) none-place)
 
   module _ (rest : List Test) where
     -- ---- a record that is refused

@@ -3,7 +3,6 @@ use Prim.Native.Nat.{ℕ, _*_, _<_}
 use mathlib.Core.Path.{_≡_, refl, sym, ap, _∙_}
 use mathlib.Core.Bool.{false}
 use mathlib.Core.List.{List, [], _++_}
-use native.Mathlib.Omega.{arith}
 use lib.ListN.{drop}
 use Rattle.record.specs.Layout.{decoded, encoded}
 use Rattle.record.specs.Refusals.{meaning, verdict, accepts, blockTests, writeTests, written}
@@ -14,7 +13,6 @@ use Rattle.record.specs.declared.Reading.{Reading}
 use Rattle.record.specs.declared.Reason.{Reason}
 use Rattle.record.proofs.Answers.{refused-not, accepted-so}
 use Rattle.record.proofs.RoundTrips.{reading-decoded}
-use Rattle.record.proofs.Verdicts.{place-none}
 use Rattle.model.specs.Nodes.{chosen}
 use Rattle.model.specs.Cycles.{playLength, playTable}
 use Rattle.model.specs.Rounds.{windowTable}
@@ -31,10 +29,7 @@ use Rattle.exports.specs.Doors.{
   PlaysBytes,
   PlayLengthBytes,
 }
-use Rattle.exports.proofs.DoorVerdicts.{output-place, list-place, answer-place, door-done}
-
-none-place : verdict [] .1 < 65536
-none-place = place-none 65536 (omega arith)
+use Rattle.exports.proofs.DoorVerdicts.{none-place, output-place, list-place, answer-place, door-done}
 
 module _ (s : List ℕ) (r : Reading) (x : Reads s r) (e : r .answer ≡ Accepted) where
   abbrev block : r .block ≡ decoded s

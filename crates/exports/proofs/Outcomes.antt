@@ -24,13 +24,13 @@ use Rattle.record.specs.Promises.{Writes}
 use Rattle.record.specs.declared.Answer.the-variants.{Accepted}
 use Rattle.record.proofs.BlockValues.{decoded-whole}
 use Rattle.record.proofs.RoundTrips.{block-decoded}
-use Rattle.record.proofs.Verdicts.{place-none, both-accepted, after-accepted, read-place, fine}
+use Rattle.record.proofs.Verdicts.{both-accepted, after-accepted, read-place, fine}
 use Rattle.analysis.specs.Result.{analyseTests, windowTests, analysed, tabled}
 use Rattle.analysis.specs.Promises.{Analyses, WritesWindows}
 use Rattle.play.specs.Refusals.{listTests, playTests, lengthTests}
 use Rattle.play.specs.Promises.{played, playLengthGiven, Plays, GivesPlayLength}
 use Rattle.exports.specs.Doors.{coded, Door, recordRoom, windowsRoom, playRoom, ChecksBytes, RecodesBytes, AnalysesBytes, WindowsBytes, PlaysBytes, PlayLengthBytes}
-use Rattle.exports.proofs.DoorVerdicts.{output-place, list-place}
+use Rattle.exports.proofs.DoorVerdicts.{none-place, output-place, list-place}
 
 -- ---- one outcome
 door-one : {A : Type 0} (s : List ℕ) (more : List Test) (made o : A) (x y : ℕ) (p q : A) → Door s more made o x p → Door s more made o y q → (x ≡ y) × (p ≡ q)
@@ -68,9 +68,6 @@ Back r v = (r / 65536 ≡ v .0) × (r % 65536 ≡ v .1)
 door-back : {A : Type 0} (s : List ℕ) (more : List Test) (made o : A) (r : ℕ) (p : A) → verdict more .1 < 65536 → Door s more made o r p
     → Back r (verdict (readTests s ++ more))
 door-back s more made o r p h u = rw (u .answer) (coded-back (verdict (readTests s ++ more)) (read-place s 65536 more (omega arith) h))
-
-none-place : verdict [] .1 < 65536
-none-place = place-none 65536 (omega arith)
 
 module _ (s : List ℕ) (r : ℕ) where
   pub check-back : ChecksBytes s r → Back r (readVerdict s)

@@ -14,7 +14,7 @@ use Rattle.model.specs.Cycles.{notStarted, start, started, turns}
 use Rattle.unpacked.specs.inside.UnpackedBlock.{Unpacked}
 use Rattle.unpacked.specs.declared.Shape.{Shape}
 use Rattle.play.specs.inside.NodeTurn.{stageReady, fromWhen, ended, can}
-use Rattle.play.specs.inside.PlayFacts.{Chosen, Timed, Units}
+use Rattle.play.specs.inside.PlayFacts.{Kinds, Timed, Units}
 use Rattle.play.proofs.NodeTest.{begins-can}
 use Rattle.play.proofs.UnitsHeld.{timed-start, units-start}
 use Rattle.schedules.proofs.CycleTurns.{started-is, unstarted}
@@ -51,7 +51,7 @@ passed-none b lat t s ends long w o = record { long = long; is = refl; timed = w
 pub passed-all : (b : Block) (lat : ℕ → ℕ) (t : ℕ) (s₀ : List ℕ) (v : ℕ) (s ends : List ℕ) → v ≡ nodes b → Passed b lat t s₀ v s ends → s ≡ turns b lat t s₀ (nodes b)
 passed-all b lat t s₀ v s ends e p = p .is ∙ ap (turns b lat t s₀) e
 
-module _ (b : Block) (h : Shape) (s1 s2 : List ℕ) (U : Unpacked b h s1 s2) (kinds l : List ℕ) (L : Chosen b kinds l) (t : ℕ) (s₀ : List ℕ)
+module _ (b : Block) (h : Shape) (s1 s2 : List ℕ) (U : Unpacked b h s1 s2) (kinds l : List ℕ) (L : Kinds b kinds) (t : ℕ) (s₀ : List ℕ)
     (v : ℕ) (s ends : List ℕ) (p : Passed b (chosen b l) t s₀ v s ends) (i g : ℕ) (here : v ≡ node g i) (m : i < b .n) (k : g < 5) where
   abbrev starting : Bool
   starting = starts h (getD s1 i 0) (getD s2 i 0) (getD l i 0) (getD ends (getD kinds i 0) 0) t s i g

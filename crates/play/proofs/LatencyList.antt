@@ -13,12 +13,9 @@ use Rattle.lists.proofs.Bools.{or-left, or-right}
 use Rattle.record.specs.Refusals.{verdict, outputTest}
 use Rattle.record.specs.declared.Block.{Block}
 use Rattle.record.proofs.Verdicts.{none, refuse, pass, passed, refuse-firstFault, pass-firstFault, passed-firstFault}
-use Rattle.record.proofs.AcceptedRanges.{Ranges}
-use Rattle.model.specs.Nodes.{nodes, instruction, entry, highest, chosen}
-use Rattle.model.proofs.Latencies.{latency-mono, latency-some}
-use Rattle.unpacked.proofs.BlockColumns.{Column, kind-column}
+use Rattle.model.specs.Nodes.{entry}
+use Rattle.schedules.specs.inside.Executions.{Fitting}
 use Rattle.play.specs.Refusals.{wrong, listTest, latencyTest, listTests}
-use Rattle.play.specs.inside.PlayFacts.{Chosen}
 
 -- ---- its verdict
 module _ (b : Block) (l : List ℕ) where
@@ -67,18 +64,6 @@ module _ (b : Block) (l : List ℕ) (z : verdict (listTests b l) ≡ (0, 0)) whe
       let w = least-below 0 (b .n) (wrong b l) i (omega arith) (omega (arith, parts .1)) h in
       (ltb-false (getD l i 0) (entry b i .lo) (or-left _ (ltb (entry b i .hi) (getD l i 0)) w), ltb-false (entry b i .hi) (getD l i 0) (or-right (ltb (getD l i 0) (entry b i .lo)) _ w))
 
-  -- and so, beside the column of kinds, is one of those that the play takes
-  pub accepted-chosen : (kinds : List ℕ) → Column b 0 kinds → Chosen b kinds l
-  accepted-chosen kinds k = record { kind = kind-column b kinds k; long = listed; least = λ i h. ranged i h .0; most = λ i h. ranged i h .1 }
-
--- ---- the latencies that it chooses
-module _ (b : Block) (kinds l : List ℕ) (L : Chosen b kinds l) where
-  pub chosen-least : Ranges b → (v : ℕ) → v < nodes b → 1 ≤ chosen b l v
-  unfolding chosen
-  chosen-least A v h =
-      let i : instruction v < b .n = omega arith in
-      latency-some _ v (omega (arith, L .least (instruction v) i, A .instruction (instruction v) i .lo))
-
-  pub chosen-most : (v : ℕ) → v < nodes b → chosen b l v ≤ highest b v
-  unfolding chosen highest
-  chosen-most v h = latency-mono _ _ v (L .most (instruction v) (omega arith))
+  -- so the entries allow them
+  pub accepted-fitting : Fitting b l
+  accepted-fitting = record { least = λ i h. ranged i h .0; most = λ i h. ranged i h .1 }

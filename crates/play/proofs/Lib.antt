@@ -5,11 +5,4 @@ pub mod NodeTest
 pub mod UnitsHeld
 pub mod UnitsFree
 pub mod CycleByNode
-pub mod QuietCycles
-pub mod StagesStarted
-pub mod OneTurn
-pub mod HalfCycle
-pub mod WholeCycle
-pub mod PlayLoop
-pub mod PlayTable
 pub mod PlayLimits

@@ -17,7 +17,7 @@ use Rattle.unpacked.specs.inside.UnpackedBlock.{Unpacked}
 use Rattle.unpacked.specs.declared.Shape.{Shape}
 use Rattle.unpacked.proofs.ReadyTimes.{stage-node, instruction-node, chosen-one, chosen-EX, ready-IF, ready-ID, ready-EX, ready-WB, ready-CM}
 use Rattle.play.specs.inside.NodeTurn.{stageReady, fromWhen, can}
-use Rattle.play.specs.inside.PlayFacts.{Chosen, Timed, Units}
+use Rattle.play.specs.inside.PlayFacts.{Kinds, Timed, Units}
 use Rattle.lists.specs.Lists.{In}
 use Rattle.record.proofs.AcceptedRanges.{Ranges, ranges}
 use Rattle.model.proofs.Predecessors.{finish-below, order-below}
@@ -80,7 +80,7 @@ module _ (t : ℕ) (s : List ℕ) (w : Timed t s) where
         and-four (not (started s v)) _ (all (started s) (orderInto b v)) _
         ∙ ap (λ (x : Bool). not (started s v) && (x && (not (isEX v) || free b lat t s (entry b (instruction v) .kind)))) (waits b A v l)
 
-module _ (b : Block) (h : Shape) (s1 s2 : List ℕ) (U : Unpacked b h s1 s2) (kinds l : List ℕ) (L : Chosen b kinds l) where
+module _ (b : Block) (h : Shape) (s1 s2 : List ℕ) (U : Unpacked b h s1 s2) (kinds l : List ℕ) (L : Kinds b kinds) where
   -- what the code works out is the model's ready time
   pub stage-ready : (s : List ℕ) (i g : ℕ) → i < b .n → g < 5
       → stageReady h (getD s1 i 0) (getD s2 i 0) (getD l i 0) s i g ≡ ready b (chosen b l) s (node g i)

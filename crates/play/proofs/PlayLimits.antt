@@ -1,4 +1,4 @@
--- The kinds of an accepted block, and the times of its play. Assumes nothing.
+-- The kinds of an accepted block, the length of its play, and the state after a cycle. Assumes nothing.
 use Prim.Native.Nat.{ℕ, _+_, _-_, _*_, _≤_, _<_}
 use mathlib.Core.Path.{_≡_, refl}
 use mathlib.Core.List.{List, _++_}
@@ -7,26 +7,21 @@ use lib.ListN.{getD, List·getD-append}
 use Rattle.record.specs.Refusals.{blockVerdict}
 use Rattle.record.specs.declared.Block.{Block}
 use Rattle.record.proofs.AcceptedRanges.{ranges}
-use Rattle.model.specs.Nodes.{CM, node, nodes, entry, chosen}
-use Rattle.model.specs.Cycles.{State, finish, turns, cycle, play, threeTimes, playLength, playTable}
+use Rattle.model.specs.Nodes.{CM, node, nodes, chosen}
+use Rattle.model.specs.Cycles.{State, turns, cycle, play, threeTimes, playLength, playTable}
 use Rattle.model.proofs.TableNumbers.{play-at, length-plays}
-use Rattle.schedules.proofs.PlayEnds.{play-limit}
-use Rattle.unpacked.proofs.BlockColumns.{Column, kind-column, few}
-use Rattle.play.specs.inside.PlayFacts.{Chosen}
-use Rattle.play.proofs.LatencyList.{chosen-least, chosen-most}
+use Rattle.unpacked.proofs.BlockColumns.{Column, kind-column}
+use Rattle.play.specs.inside.PlayFacts.{Kinds}
 
 module _ (b : Block) (z : blockVerdict b ≡ (0, 0)) where
   pub some : 1 ≤ b .n
   some = ranges b z .n .0
 
+  pub kinds-are : (kinds : List ℕ) → Column b 0 kinds → Kinds b kinds
+  kinds-are kinds e = record { kind = kind-column b kinds e }
+
   pub kinds-four : (kinds : List ℕ) → Column b 0 kinds → (i : ℕ) → i < b .n → getD kinds i 0 ≤ 3
   kinds-four kinds e i l = omega (arith, kind-column b kinds e i l, ranges b z .instruction i l .kind)
-
-  -- ---- its play
-  module _ (cap : (i : ℕ) → entry b i .hi ≤ 255) (kinds l : List ℕ) (L : Chosen b kinds l) where
-    pub play-most : (v : ℕ) → v < nodes b → finish (chosen b l) (play b (chosen b l)) v ≤ 30780
-    play-most v h =
-        omega (arith, few b z, play-limit b z cap (chosen b l) (chosen-least b kinds l L (ranges b z)) (chosen-most b kinds l L) v h)
 
   -- its length is the last number of its table
   pub length-last : (l o out : List ℕ) → out ≡ playTable b (chosen b l) ++ o → getD out (15 * b .n - 1) 0 ≡ playLength b (chosen b l)

@@ -16,7 +16,7 @@ use Rattle.lists.proofs.NumbersWhereGrowth.{numbersWhere-none, numbersWhere-mor
 use Rattle.record.specs.declared.Block.{Block}
 use Rattle.model.specs.Nodes.{EX, node, entry, chosen}
 use Rattle.model.specs.Cycles.{notStarted, start, started, finish, runs, units, free}
-use Rattle.play.specs.inside.PlayFacts.{Chosen, Timed, Units}
+use Rattle.play.specs.inside.PlayFacts.{Kinds, Timed, Units}
 use Rattle.unpacked.proofs.ReadyTimes.{chosen-EX}
 use Rattle.play.proofs.NodeTest.{both-le}
 use Rattle.play.proofs.UnitsHeld.{holds}
@@ -50,7 +50,7 @@ not-ltb t f =
     (λ e. rw (e, le-ltb t f (leb-true f t e)) refl)
     (λ e. rw (e, lt-ltb t f (leb-false f t e)) refl)
 
-module _ (b : Block) (kinds l : List ℕ) (L : Chosen b kinds l) (t : ℕ) (s : List ℕ) (w : Timed t s) (m : ℕ) (few : m < b .n) (sixty : b .n ≤ 60) where
+module _ (b : Block) (kinds l : List ℕ) (L : Kinds b kinds) (t : ℕ) (s : List ℕ) (w : Timed t s) (m : ℕ) (few : m < b .n) (sixty : b .n ≤ 60) where
   abbrev x : ℕ
   x = start s (node EX m)
 

@@ -7,21 +7,21 @@ use mathlib.Core.List.{List, [], _∷_}
 use mathlib.Core.Logic.{_⊎_, inl}
 use native.Mathlib.Omega.{arith}
 use lib.Dec.{leb, ltb, eqb}
-use lib.ListN.{length, getD, set, replicate, length-set}
+use lib.ListN.{length, getD, set, length-set}
 use lib.Seq.{getD-set-same, getD-set-other}
 use borrow.Author.Tests.{le-leb, leb-true, leb-false, lt-ltb, le-ltb, eq-eqb, ne-eqb, eqb-true, eqb-false}
 use Rattle.lists.specs.Lists.{In, numbersWhere}
 use Rattle.lists.proofs.Bools.{by-test}
-use Rattle.lists.proofs.Elements.{getD-zeros, all-set}
+use Rattle.lists.proofs.Elements.{all-set}
 use Rattle.lists.proofs.NumbersWhereGrowth.{numbersWhere-none, numbersWhere-front, in-numbersWhere, numbersWhere-ext}
 use Rattle.record.specs.declared.Block.{Block}
 use Rattle.record.proofs.AcceptedRanges.{Ranges, ranges}
-use Rattle.model.specs.Nodes.{EX, node, nodes, entry, chosen}
+use Rattle.model.specs.Nodes.{EX, node, entry, chosen}
 use Rattle.model.specs.Cycles.{notStarted, started, finish, runs, units, free}
 use Rattle.unpacked.specs.inside.UnpackedBlock.{Unpacked}
 use Rattle.unpacked.specs.declared.Shape.{Shape}
 use Rattle.play.specs.inside.NodeTurn.{stageReady, fromWhen, ended, can}
-use Rattle.play.specs.inside.PlayFacts.{Chosen, Timed, Units}
+use Rattle.play.specs.inside.PlayFacts.{Kinds, Timed, Units}
 use Rattle.unpacked.proofs.ReadyTimes.{chosen-EX}
 
 -- ---- a start more
@@ -93,7 +93,7 @@ module _ (b : Block) (lat : ℕ → ℕ) (t : ℕ) (s : List ℕ) (early : t < n
           (λ e. rw (eqb-true j i e, runs-own lat t' s t i long early m, le-ltb t' (t + lat (node EX i)) done, and-false) refl)
           (λ e. rw (runs-other lat t' s (node EX i) t j (λ q. eqb-false j i e (omega arith))) (none-free b lat t' s k f j l))
 
-module _ (b : Block) (h : Shape) (s1 s2 : List ℕ) (U : Unpacked b h s1 s2) (kinds l : List ℕ) (L : Chosen b kinds l) where
+module _ (b : Block) (h : Shape) (s1 s2 : List ℕ) (U : Unpacked b h s1 s2) (kinds l : List ℕ) (L : Kinds b kinds) where
   A : Ranges b
   A = ranges b (U .accepted)
 
@@ -152,15 +152,3 @@ module _ (b : Block) (h : Shape) (s1 s2 : List ℕ) (U : Unpacked b h s1 s2) (ki
       let le = can-free (getD s1 i 0) (getD s2 i 0) (getD ends (getD kinds i 0) 0) t s i (rw ex at c) in
       rw (ex, L .kind i m) (start-EX t s ends long w o i m (rw (L .kind i m) at le)))
       (λ e. rw e (start-other t s ends long w o i m g q (eqb-false g EX e)))
-
-  -- with nothing started
-  pub units-none : (t : ℕ) (s ends : List ℕ) → ((v : ℕ) → v < nodes b → started s v ≡ false) → ends ≡ replicate 4 0 → Units b (chosen b l) t s ends
-  unfolding runs
-  units-none t s ends off e =
-      rw e
-      (record {
-        four = refl;
-        free = λ k t' a.
-            rw (getD-zeros 4 k, le-leb 0 t' (omega arith))
-            (free-none b (chosen b l) t' s k (λ j m. rw (off (node EX j) (omega arith), and-false) refl));
-      })

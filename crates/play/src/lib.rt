@@ -1,9 +1,7 @@
 // The play of a block: one cycle by value, and the play table.
 mod nodes;
 mod operations;
-mod play_table;
 mod refusals;
-mod whole_play;
 
 pub use operations::play;
 pub use operations::play_length;

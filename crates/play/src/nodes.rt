@@ -10,7 +10,7 @@ ghost use Rattle.model.specs.Nodes.{node, nodes, chosen};
 ghost use Rattle.model.specs.Cycles.{started, turns};
 ghost use Rattle.unpacked.specs.inside.UnpackedBlock.{Unpacked};
 ghost use Rattle.play.specs.inside.NodeTurn.{stageReady, fromWhen, ended, can};
-ghost use Rattle.play.specs.inside.PlayFacts.{Chosen, Timed, Units};
+ghost use Rattle.play.specs.inside.PlayFacts.{Kinds, Timed, Units};
 use unpacked::EX;
 use unpacked::ID;
 use unpacked::IF;
@@ -22,7 +22,7 @@ use unpacked::time;
 use unpacked::wide;
 
 // The ready time of stage g of instruction i.
-pub fn stage_ready(h: Shape, x: u8, y: u8, l: u8, s: &[u16], i: usize, g: usize) -> u32
+fn stage_ready(h: Shape, x: u8, y: u8, l: u8, s: &[u16], i: usize, g: usize) -> u32
     requires { ⌜ (i < 60) × (length (now s) ≡ 300) × (x ≤ 60) × (y ≤ 60) ⌝ }
     ensures { λ r. ⌜ (r ≡ stageReady h x y l (now (s .entry)) i g) × (r ≤ 65790) ⌝ }
 {
@@ -36,7 +36,7 @@ pub fn stage_ready(h: Shape, x: u8, y: u8, l: u8, s: &[u16], i: usize, g: usize)
 }
 
 // From when on stage g can start: r is its ready time, and e is when its unit is free.
-pub fn from_when(g: usize, r: u32, e: u32) -> u32
+fn from_when(g: usize, r: u32, e: u32) -> u32
     ensures { λ x. ⌜ x ≡ fromWhen g r e ⌝ }
 {
     if g == EX { larger(r, e) } else { r }
@@ -51,7 +51,7 @@ fn until(t: u32, l: u8) -> u32
 }
 
 // Notes until when the unit of kind k is held, stage g having started at t.
-pub fn hold(g: usize, k: usize, l: u8, t: u32, ends: &mut [u32])
+fn hold(g: usize, k: usize, l: u8, t: u32, ends: &mut [u32])
     requires { ⌜ (t < 65536) × (k < length (now ends)) ⌝ }
     ensures { λ _. ⌜ now (ends .exit) ≡ ended (now (ends .entry)) g k l t ⌝ }
 {
@@ -100,7 +100,7 @@ fn later_end(x: u16, l: u8, e: u32) -> u32
 // From when on each kind's unit is free, in a cycle after all starts.
 fn unit_ends(n: usize, kinds: &[u8], lat: &[u8], s: &[u16]) -> [u32; 4]
     requires { ⌜ (n ≤ 60) × (length (now kinds) ≡ 60) × (length (now lat) ≡ n) × (length (now s) ≡ 300) × ((i : ℕ) → i < n → getD (now kinds) i 0 ≤ 3) ⌝ }
-    ensures { λ r. ⌜ ((b : Block) (t : ℕ) → n ≡ b .n → Chosen b (now (kinds .entry)) (now (lat .entry)) → Timed t (now (s .entry)) → Units b (chosen b (now (lat .entry))) t (now (s .entry)) r) ⌝ }
+    ensures { λ r. ⌜ ((b : Block) (t : ℕ) → n ≡ b .n → Kinds b (now (kinds .entry)) → Timed t (now (s .entry)) → Units b (chosen b (now (lat .entry))) t (now (s .entry)) r) ⌝ }
 {
     let mut ends = [0u32; 4];
     for i in 0..n {
@@ -122,7 +122,7 @@ fn instruction_of(v: usize) -> usize
 pub fn cycle_into(h: Shape, kinds: &[u8], lat: &[u8], s1: &[u8], s2: &[u8], t: u32, s: &mut [u16])
     requires { ⌜ (t < 30780) × (h .n ≤ 60) × (length (now kinds) ≡ 60) × (length (now lat) ≡ h .n) × (length (now s1) ≡ 60) × (length (now s2) ≡ 60) × (length (now s) ≡ 300) ⌝ }
     requires { ⌜ ((i : ℕ) → i < h .n → getD (now kinds) i 0 ≤ 3) × ((j : ℕ) → getD (now s1) j 0 ≤ 60) × ((j : ℕ) → getD (now s2) j 0 ≤ 60) ⌝ }
-    ensures { λ _. ⌜ ((b : Block) → Unpacked b h (now (s1 .entry)) (now (s2 .entry)) → Chosen b (now (kinds .entry)) (now (lat .entry)) → Timed t (now (s .entry)) → now (s .exit) ≡ turns b (chosen b (now (lat .entry))) t (now (s .entry)) (nodes b)) ⌝ }
+    ensures { λ _. ⌜ ((b : Block) → Unpacked b h (now (s1 .entry)) (now (s2 .entry)) → Kinds b (now (kinds .entry)) → Timed t (now (s .entry)) → now (s .exit) ≡ turns b (chosen b (now (lat .entry))) t (now (s .entry)) (nodes b)) ⌝ }
 {
     let mut ends = unit_ends(h.n, kinds, lat, s);
     let end = 5 * h.n;

@@ -14,30 +14,15 @@ use crate::PlayLength;
 use crate::PlayState;
 use crate::Step;
 use crate::nodes::cycle_into;
-use crate::play_table::put_play;
 use crate::refusals::lent_answer;
 use crate::refusals::unfit_state;
-use crate::whole_play::run;
+use choices::table_into;
 use record::Answer;
 use record::Block;
 use record::KIND;
 use record::READS1;
 use record::READS2;
 use record::Reason;
-
-// The play table of a block.
-fn table_into(b: Block, lat: &[u8], out: &mut [u16])
-    requires { ⌜ (blockVerdict b ≡ (0, 0)) × (verdict (listTests b (now lat)) ≡ (0, 0)) × (15 * b .n ≤ length (now out)) ⌝ }
-    ensures { λ _. ⌜ now (out .exit) ≡ playTable b (chosen b (now (lat .entry))) ++ drop (15 * b .n) (now (out .entry)) ⌝ }
-{
-    let h = unpacked::shape_of(b);
-    let kinds = unpacked::column(b, KIND);
-    let s1 = unpacked::sources(b, READS1);
-    let s2 = unpacked::sources(b, READS2);
-    let mut s = [65535u16; 300];
-    run(h, &kinds, lat, &s1, &s2, &mut s);
-    put_play(h, lat, &s1, &s2, &s, out);
-}
 
 // The state after a cycle.
 fn next_state(b: Block, lat: &[u8], p: PlayState) -> PlayState

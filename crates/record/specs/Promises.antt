@@ -39,7 +39,8 @@ pub record Whole (b : Block) : Type 0 where
   pub entries : length (b .entries) ≡ 60
   pub each : (i : ℕ) → ByteEntry (getD (b .entries) i noEntry)
 
--- "Every public function carries a promise": reading the bytes s, the answer is the verdict, and the block is the bytes' or all zero
+-- "Every public function carries a promise": reading the bytes s, the answer is the verdict, and the block is the bytes' or
+-- all zero
 pub record Reads (s : List ℕ) (r : Reading) : Type 0 where
   pub bytes : ByteString s
   pub answer : meaning (r .answer) ≡ readVerdict s

@@ -91,6 +91,12 @@ sum-more q g n =
       one-more (q n) g n,
     ) refl
 
+-- what is summed over the numbers with a property is summed below n where they have it
+sum-where : (q : ℕ → Bool) (g : ℕ → ℕ) (n : ℕ) → sum (map g (numbersWhere 0 n q)) ≡ sumBelow n (λ j. valueIf (q j) (g j))
+unfolding sumBelow sum
+sum-where q g zero = rw numbersWhere-none refl
+sum-where q g (suc n) = omega (arith, sum-more q g n, sum-where q g n)
+
 module _ (p : ℕ → Bool) (only-EX : (u : ℕ) → isEX u ≡ false → p u ≡ false) where
   module _ (f : ℕ → ℕ) where
     none-off : (u : ℕ) → (stage u ≡ EX → ⊥) → valueIf (p u) (f u) ≡ 0
@@ -121,3 +127,7 @@ module _ (p : ℕ → Bool) (only-EX : (u : ℕ) → isEX u ≡ false → p u �
 
   pub count-EX : (n : ℕ) → countBelow (5 * n) p ≡ length (numbersWhere 0 n (λ j. p (node EX j)))
   count-EX n = sum-EX (λ u. 1) n ∙ ones (numbersWhere 0 n (λ j. p (node EX j)))
+
+  -- and counted over them
+  pub count-instructions : (n : ℕ) → countBelow (5 * n) p ≡ countBelow n (λ j. p (node EX j))
+  count-instructions n = sum-EX (λ u. 1) n ∙ sum-where (λ j. p (node EX j)) (λ j. 1) n

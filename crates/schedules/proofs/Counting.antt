@@ -5,7 +5,7 @@ use mathlib.Core.Path.{_≡_, refl, ap}
 use mathlib.Core.Bool.{Bool, true, false}
 use native.Mathlib.Omega.{arith}
 use native.Mathlib.Nat.{le-max-right, max-le}
-use native.Mathlib.Decide.{decLe}
+use native.Mathlib.Decide.{decLe, decLt}
 use lib.Dec.{T}
 use Rattle.schedules.specs.inside.SumsBelow.{valueIf, sumBelow, largestBelow, countBelow}
 
@@ -40,6 +40,32 @@ sum-add (suc n) f g = omega (arith, sum-add n f g)
 
 pub count-mono : (n : ℕ) (p q : ℕ → Bool) → ((u : ℕ) → u < n → T (p u) → T (q u)) → countBelow n p ≤ countBelow n q
 count-mono n p q h = sum-le n _ _ (λ u l. valueIf-mono (p u) (q u) 1 1 (h u l) (omega arith))
+
+-- tests that agree below n count the same
+pub count-same : (n : ℕ) (p q : ℕ → Bool) → ((u : ℕ) → u < n → p u ≡ q u) → countBelow n p ≡ countBelow n q
+unfolding sumBelow
+count-same zero p q h = refl
+count-same (suc n) p q h = omega (arith, count-same n p q (λ u l. h u (omega arith)), ap (λ (b : Bool). valueIf b 1) (h n (omega arith)))
+
+-- tests that agree below n but at i, which the first does not count, differ by what the second counts there
+pub count-one-more : (n : ℕ) (p q : ℕ → Bool) (i : ℕ) → i < n → p i ≡ false → ((u : ℕ) → u < n → (u ≡ i → ⊥) → q u ≡ p u)
+    → countBelow n q ≡ countBelow n p + valueIf (q i) 1
+unfolding sumBelow
+count-one-more zero p q i l off h = absurd (omega arith)
+count-one-more (suc n) p q i l off h = with-last (decLt i n) (λ k. count-one-more n p q i k off (λ u g. h u (omega arith)))
+  where
+    with-last : Dec (i < n) → (i < n → countBelow n q ≡ countBelow n p + valueIf (q i) 1)
+        → countBelow n q + valueIf (q n) 1 ≡ countBelow n p + valueIf (p n) 1 + valueIf (q i) 1
+    with-last (yes k) ih = omega (arith, ih k, ap (λ (b : Bool). valueIf b 1) (h n (omega arith) (λ e. omega arith)))
+    with-last (no k) ih =
+        let e : n ≡ i = omega arith in
+        rw (e, off) (omega (arith, rw e at (count-same n q p (λ u g. h u (omega arith) (λ d. omega arith)))))
+
+-- nothing passes a test that fails
+pub count-zero : (n : ℕ) → countBelow n (λ u. false) ≡ 0
+unfolding sumBelow
+count-zero zero = refl
+count-zero (suc n) = omega (arith, count-zero n)
 
 -- what is counted is found
 pub count-find : (n : ℕ) (p : ℕ → Bool) → zero < countBelow n p → (u : ℕ) × (u < n) × T (p u)

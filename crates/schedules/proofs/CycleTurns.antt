@@ -1,7 +1,7 @@
 -- The turns of a cycle, node by node, and the four tests of a turn. Assumes nothing.
 use Prim.Native.Nat.{ℕ, zero, suc, _+_, _≤_, _<_, min}
 use mathlib.Core.Path.{_≡_, refl, sym, ap, _∙_}
-use mathlib.Core.Bool.{Bool, true, false, and-false, not, _&&_, _||_}
+use mathlib.Core.Bool.{Bool, true, false, and-false, not, _&&_, _||_, false≢true}
 use mathlib.Core.List.{List}
 use mathlib.Core.Logic.{_⊎_}
 use native.Mathlib.Omega.{arith}
@@ -87,6 +87,12 @@ module _ (b : Block) (lat : ℕ → ℕ) (t : ℕ) (s : List ℕ) where
       (λ e. let l = ltb-true u k e in turns-skip k u l ∙ turns-below k u l (omega arith))
       (λ e. let q : k ≡ u = omega (arith, ltb-false u k e) in rw q (turns-own u (omega arith)))
 
+  -- where no node begins, all stays
+  pub turns-none : (k : ℕ) → ((u : ℕ) → u < k → begins b lat t s u ≡ false) → turns b lat t s k ≡ s
+  unfolding turns
+  turns-none zero h = refl
+  turns-none (suc k) h = rw (turns-none k (λ u l. h u (omega arith)), h k (omega arith)) refl
+
 -- ---- the four tests of a turn
 pub record Begins (b : Block) (lat : ℕ → ℕ) (t : ℕ) (s : List ℕ) (v : ℕ) : Type 0 where
   pub waiting : started s v ≡ false
@@ -129,3 +135,8 @@ module _ (b : Block) (lat : ℕ → ℕ) (t : ℕ) (s : List ℕ) (v : ℕ) wher
       (each-all arrived (finishInto b v) (λ u i. and-both (started s u) _ (h .finished u i .1) (le-leb (start s u + lat u) t (h .finished u i .0)))))
       (each-all (started s) (orderInto b v) (h .ordered)))
       (serves (h .unit))
+
+-- a node that has started does not begin again
+pub started-stays : (b : Block) (lat : ℕ → ℕ) (t : ℕ) (s : List ℕ) (v : ℕ) → started s v ≡ true → begins b lat t s v ≡ false
+started-stays b lat t s v h =
+    by-test (begins b lat t s v) (λ e. absurd (false≢true (sym (begins-means b lat t s v e .waiting) ∙ h))) (λ e. e)

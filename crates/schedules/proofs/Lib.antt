@@ -7,3 +7,5 @@ pub mod CycleTurns
 pub mod CycleStep
 pub mod PlaySchedule
 pub mod PlayEnds
+pub mod Choosing
+pub mod PlayExecutions

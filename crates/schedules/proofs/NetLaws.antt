@@ -23,8 +23,19 @@ pub and-both : (a b : Bool) → T a → T b → T (a && b)
 and-both true b s t = t
 and-both false b s t = s
 
-tie-le : (u v x t : ℕ) → T (leb (x + valueIf (leb v u) 1) t) → v ≤ u → x < t
+-- x lies before t, or at t where u stands before v: as a test and as facts
+pub tie-begun : (u v x t : ℕ) → T (leb (x + valueIf (leb v u) 1) t) → x ≤ t
+tie-begun u v x t h = omega (arith, leb→le (x + valueIf (leb v u) 1) t h)
+
+pub tie-le : (u v x t : ℕ) → T (leb (x + valueIf (leb v u) 1) t) → v ≤ u → x < t
 tie-le u v x t h l = omega (arith, leb→le (x + valueIf (leb v u) 1) t h, valueIf-on (leb v u) 1 (le→leb v u l))
+
+pub le-tie : (u v x t : ℕ) → x ≤ t → (v ≤ u → x < t) → T (leb (x + valueIf (leb v u) 1) t)
+le-tie u v x t h tie = le→leb _ _ (begun-by (leb v u) refl)
+  where
+    begun-by : (c : Bool) → leb v u ≡ c → x + valueIf (leb v u) 1 ≤ t
+    begun-by true e = rw e (omega (arith, tie (leb→le v u (rw e tt))))
+    begun-by false e = rw e (omega arith)
 
 pub busy→ : (G : Net) (lat s : ℕ → ℕ) (v t u : ℕ) → T (busy G lat s v t u) → Busy G lat s v t u
 unfolding busy
@@ -36,7 +47,7 @@ busy→ G lat s v t u h =
       ex = and-left (G .ex u) _ p;
       same = eqb→eq _ _ (and-right (G .ex u) _ p);
       runs = ltb→lt _ _ (and-left (ltb t (s u + lat u)) _ q);
-      begun = omega (arith, leb→le (s u + valueIf (leb v u) 1) t r);
+      begun = tie-begun u v (s u) t r;
       tie = tie-le u v (s u) t r;
     }
 
@@ -45,8 +56,4 @@ unfolding busy
 →busy G lat s v t u b =
     and-both (peer G v u) _
     (and-both (G .ex u) _ (b .ex) (rw (b .same) (eqb-refl (G .kind v))))
-    (and-both (ltb t (s u + lat u)) _ (lt→ltb _ _ (b .runs)) (le→leb _ _ (begun-by (leb v u) refl)))
-  where
-    begun-by : (c : Bool) → leb v u ≡ c → s u + valueIf (leb v u) 1 ≤ t
-    begun-by true e = rw e (omega (arith, b .tie (leb→le v u (rw e tt))))
-    begun-by false e = rw e (omega (arith, b .begun))
+    (and-both (ltb t (s u + lat u)) _ (lt→ltb _ _ (b .runs)) (le-tie u v (s u) t (b .begun) (b .tie)))

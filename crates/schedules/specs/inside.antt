@@ -1,3 +1,4 @@
 pub mod SumsBelow
 pub mod Nets
 pub mod RoundInequalities
+pub mod Executions

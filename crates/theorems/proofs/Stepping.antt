@@ -23,9 +23,9 @@ use Rattle.record.proofs.AcceptedRanges.{ranges}
 use Rattle.record.proofs.Answers.{meaning-one, accepted-so}
 use Rattle.record.proofs.Verdicts.{none, pass, after-accepted}
 use Rattle.model.specs.Nodes.{nodes, chosen}
-use Rattle.model.specs.Cycles.{State, notStarted, start, unfit, turns, cycle, firstState, allStarted, playOn, play, threeTimes}
+use Rattle.model.specs.Cycles.{State, notStarted, start, unfit, cycle, firstState, allStarted, playOn, play, threeTimes}
 use Rattle.model.proofs.TableNumbers.{play-at}
-use Rattle.schedules.proofs.CycleTurns.{Known, begun as begun-turn, turns-length, turns-later, turns-below}
+use Rattle.schedules.proofs.CycleTurns.{Known, begun as begun-turn, turns-length, turns-later, turns-below, turns-none, started-stays}
 use Rattle.schedules.proofs.PlaySchedule.{allStarted-each, each-allStarted, allStarted-stays}
 use Rattle.play.specs.Refusals.{listTest, latencyTest, stateTest, listTests, cycleTests}
 use Rattle.play.specs.Promises.{stateOf, stepped, PlaysCycle, Plays}
@@ -33,7 +33,6 @@ use Rattle.play.specs.inside.NodeTurn.{unfitAt}
 use Rattle.play.specs.declared.PlayState.{PlayState}
 use Rattle.play.specs.declared.Step.{Step}
 use Rattle.play.proofs.Outcomes.{cycle-fine}
-use Rattle.play.proofs.QuietCycles.{turns-skip, started-stays}
 use Rattle.play.proofs.UnfitStates.{unfit-none}
 use Rattle.theorems.specs.Words.{AcceptedBlock, AcceptedList, Steps, begun, on}
 use Rattle.theorems.proofs.PlaysInside.{last-play, chosen-fits}
@@ -57,10 +56,9 @@ module _ (b : Block) (lat : ℕ → ℕ) where
 
   -- where all have started, a cycle changes no start
   quiet-cycle : (p : State) → allStarted b p ≡ true → cycle b lat p .starts ≡ p .starts
-  unfolding cycle turns
+  unfolding cycle
   quiet-cycle p e =
-      sym (turns-skip b lat (p .t) (p .starts) (p .starts) 0 (nodes b) (omega arith) refl
-      (λ v _ h. started-stays b lat (p .t) (p .starts) v (allStarted-each b p e v h)))
+      turns-none b lat (p .t) (p .starts) (nodes b) (λ v h. started-stays b lat (p .t) (p .starts) v (allStarted-each b p e v h))
 
   still-started : (p : State) → allStarted b p ≡ true → allStarted b (cycle b lat p) ≡ true
   still-started p e = each-allStarted b (cycle b lat p) (λ v h. rw (quiet-cycle p e) (allStarted-each b p e v h))

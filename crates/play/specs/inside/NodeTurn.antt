@@ -1,13 +1,12 @@
 -- What the code works out for one node in one cycle, written out stage by stage. That this is the model's cycle is in
--- proofs/NodeTest, proofs/CycleByNode and proofs/HalfCycle.
+-- proofs/NodeTest and proofs/CycleByNode.
 use Prim.Native.Nat.{ℕ, _+_, max}
-use mathlib.Core.Path.{_≡_}
 use mathlib.Core.Bool.{Bool, not, _&&_, _||_}
 use mathlib.Core.List.{List}
-use lib.ListN.{getD, set}
+use lib.ListN.{set}
 use lib.Dec.{leb, ltb, eqb}
 use Rattle.lists.specs.Lists.{pick}
-use Rattle.model.specs.Nodes.{IF, ID, EX, WB, node}
+use Rattle.model.specs.Nodes.{IF, ID, EX, WB}
 use Rattle.model.specs.Cycles.{notStarted}
 use Rattle.unpacked.specs.inside.ReadyByStage.{readyIF, readyID, readyEX, readyWB, readyCM}
 use Rattle.unpacked.specs.declared.Shape.{Shape}
@@ -33,17 +32,6 @@ ended ends g k l t = pick (eqb g EX) (set ends k (t + l)) ends
 -- stage g of instruction i can start at t
 unfoldable pub can : Shape → ℕ → ℕ → ℕ → ℕ → ℕ → List ℕ → ℕ → ℕ → Bool
 can h x y l e t s i g = ltb g 5 && leb (fromWhen g (stageReady h x y l s i g) e) t
-
--- the turn of instruction i in cycle t, of whose stages as many as `stages` says have started: what it leaves, and r, when to
--- look again
-pub record TurnLeaves (h : Shape) (x y l k t i : ℕ) (s stages ends : List ℕ) (r : ℕ) (s' stages' ends' : List ℕ) : Type 0 where
-  pub begun : s' ≡ pick (can h x y l (getD ends k 0) t s i (getD stages i 0)) (set s (node (getD stages i 0) i) t) s
-  pub counted : stages' ≡ pick (can h x y l (getD ends k 0) t s i (getD stages i 0)) (set stages i (getD stages i 0 + 1)) stages
-  pub held : ends' ≡ pick (can h x y l (getD ends k 0) t s i (getD stages i 0)) (ended ends (getD stages i 0) k l t) ends
-  pub again :
-      r
-      ≡ pick (can h x y l (getD ends k 0) t s i (getD stages i 0)) (t + 1)
-      (pick (eqb (getD stages i 0) WB) (stageReady h x y l s i (getD stages i 0)) 30780)
 
 -- a start x that a state of cycle t may not have at node v, the nodes of its block being those below `end`
 unfoldable pub unfitAt : ℕ → ℕ → ℕ → ℕ → Bool

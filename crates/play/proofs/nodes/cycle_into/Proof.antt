@@ -6,7 +6,7 @@ use lib.ListN.{length}
 use Rattle.record.specs.declared.Block.{Block}
 use Rattle.model.specs.Nodes.{chosen}
 use Rattle.unpacked.specs.inside.UnpackedBlock.{Unpacked}
-use Rattle.play.specs.inside.PlayFacts.{Chosen, Timed}
+use Rattle.play.specs.inside.PlayFacts.{Kinds, Timed}
 use Rattle.play.proofs.CycleByNode.{Passed, passed-none, passed-more, passed-all}
 use borrow.Author.Needs.{needs}
 use Rattle.play.proofs.nodes.cycle_into.Statement.{statement}
@@ -15,7 +15,7 @@ use Rattle.play.proofs.nodes.cycle_into.Tie as tie
 abbrev Inv-loop : tie.InvT-loop
 Inv-loop h kinds lat s1 s2 t s₀ ends₀ end v₀ s ends v =
     (end ≡ 5 * h .n) × (v ≤ end) × (length s ≡ 300) × (length ends ≡ 4)
-    × ((b : Block) → Unpacked b h s1 s2 → Chosen b kinds lat → Timed t s₀ → Passed b (chosen b lat) t s₀ v s ends)
+    × ((b : Block) → Unpacked b h s1 s2 → Kinds b kinds → Timed t s₀ → Passed b (chosen b lat) t s₀ v s ends)
 
 abbrev μ-loop : tie.MeasureT-loop
 μ-loop h kinds lat s1 s2 t s₀ ends₀ end v₀ s ends v = end - v

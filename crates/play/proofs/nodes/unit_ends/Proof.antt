@@ -5,7 +5,7 @@ use native.Mathlib.Omega.{arith}
 use lib.ListN.{length, length-set}
 use Rattle.record.specs.declared.Block.{Block}
 use Rattle.model.specs.Nodes.{chosen}
-use Rattle.play.specs.inside.PlayFacts.{Chosen, Timed}
+use Rattle.play.specs.inside.PlayFacts.{Kinds, Timed}
 use Rattle.play.proofs.UnitsFree.{Before, before-none, before-more, before-all}
 use borrow.Author.Needs.{needs}
 use Rattle.play.proofs.nodes.unit_ends.Statement.{statement}
@@ -14,7 +14,7 @@ use Rattle.play.proofs.nodes.unit_ends.Tie as tie
 abbrev Inv-loop : tie.InvT-loop
 Inv-loop n kinds lat s ends₀ i₀ ends i =
     (i ≤ n) × (length ends ≡ 4)
-    × ((b : Block) (t : ℕ) → n ≡ b .n → Chosen b kinds lat → Timed t s → Before b (chosen b lat) t s i ends)
+    × ((b : Block) (t : ℕ) → n ≡ b .n → Kinds b kinds → Timed t s → Before b (chosen b lat) t s i ends)
 
 abbrev μ-loop : tie.MeasureT-loop
 μ-loop n kinds lat s ends₀ i₀ ends i = n - i

@@ -1,6 +1,7 @@
 -- `play::operations::play` meets its contract: each way out is the first test that failed, or none did. Assumes nothing.
 use Rattle.record.proofs.Answers.{accepted-so}
 use Rattle.unpacked.proofs.BlockColumns.{few}
+use Rattle.play.proofs.LatencyList.{listed, accepted-fitting}
 use Rattle.play.proofs.Outcomes.{play-refused, play-lent, play-done, lent-fine}
 use borrow.Author.Needs.{needs}
 use Rattle.play.proofs.operations.play.Statement.{statement}
@@ -15,7 +16,7 @@ table-into-requires c κs =
     let a = c .before .before .before .before .before .before .before .before .before .args in
     let z = accepted-so _ (c .before .before .before .before .enum-told2 .given .1) (c .before .before .before .before .before .before .block-answer .ensures .answer) in
     let y = lent-fine (a .b) (a .lat .now) (a .out .now) (accepted-so _ (c .before .enum-told4 .given .1) (c .before .before .before .lent-answer .ensures)) in
-    (z, y .1, y .0)
+    (z, accepted-fitting (a .b) (a .lat .now) (y .1), listed (a .b) (a .lat .now) (y .1), y .0)
 
 returns : tie.Need-returns
 returns c =

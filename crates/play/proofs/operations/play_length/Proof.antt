@@ -4,6 +4,7 @@ use lib.ListN.{length-replicate}
 use Prim.Native.Nat.{ℕ}
 use Rattle.unpacked.proofs.BlockColumns.{few}
 use Rattle.record.proofs.Answers.{accepted-so}
+use Rattle.play.proofs.LatencyList.{listed, accepted-fitting}
 use Rattle.play.proofs.Outcomes.{length-fine, length-refused, length-done}
 use Rattle.play.proofs.PlayLimits.{some, length-last}
 use borrow.Author.Needs.{needs}
@@ -14,7 +15,8 @@ table-into-requires : tie.Need-table-into-requires
 table-into-requires c κs =
     let z = length-fine _ _ (accepted-so _ (c .before .enum-told2 .given .1) (c .before .before .before .both-answer .ensures .0)) in
     let r = length-replicate {A = ℕ} 900 0 in
-    (z .0, z .1, omega (arith, few (c .before .before .before .before .before .args .b) (z .0), r))
+    let a = c .before .before .before .before .before .args in
+    (z .0, accepted-fitting (a .b) (a .lat .now) (z .1), listed (a .b) (a .lat .now) (z .1), omega (arith, few (a .b) (z .0), r))
 
 sub-last : tie.Need-sub-last
 sub-last c =

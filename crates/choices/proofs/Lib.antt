@@ -1,0 +1,14 @@
+pub mod NoteLines
+pub mod PlayTimes
+pub mod StartsKept
+pub mod FourStores
+pub mod NotesDecoded
+pub mod SlotSums
+pub mod StartChosen
+pub mod UnitHeld
+pub mod NotesStarted
+pub mod NotesFirst
+pub mod RowWritten
+pub mod Scanning
+pub mod OneStart
+pub mod RowsFilled

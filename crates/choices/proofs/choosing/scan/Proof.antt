@@ -1,0 +1,63 @@
+-- `choices::choosing::scan` meets its contract: the first of those that can start first, of the instructions looked at; and none
+-- further on can start before it is decoded. Assumes nothing.
+use Prim.Native.Nat.{_+_, _≤_, _<_, _-_}
+use mathlib.Core.Path.{_≡_}
+use native.Mathlib.Omega.{arith}
+use lib.ListN.{getD}
+use Rattle.choices.proofs.Scanning.{Best, best-one, best-more, best-all}
+use borrow.Author.Needs.{needs}
+use Rattle.choices.proofs.choosing.scan.Statement.{statement}
+use Rattle.choices.proofs.choosing.scan.Tie as tie
+
+abbrev Inv-loop : tie.InvT-loop
+Inv-loop c m r rows x best₀ j₀ best j = (c < j) × (j ≤ m) × Best rows x c j best
+
+abbrev μ-loop : tie.MeasureT-loop
+μ-loop c m r rows x best₀ j₀ best j = m - j
+
+loop-holds : tie.Need-loop-holds Inv-loop μ-loop
+loop-holds c =
+    let a = c .args in
+    (omega arith, omega (arith, c .pre .0), best-one (a .rows .now) (a .x .now) (a .c) (a .r) (c .pre .3) (c .pre .4))
+
+-- the turn's loop
+abbrev loop-of : tie.Else1 Inv-loop μ-loop → tie.At-loop Inv-loop μ-loop
+loop-of c = c .before .before .before .before .before
+
+returns : tie.Need-returns Inv-loop μ-loop
+returns c =
+    let decoded = c .before .before in
+    let loop = decoded .before .before .before in
+    let a = loop .before .args in
+    let t = loop .loop in
+    let B = t .inv .2 in
+    let over : t .best .start ≤ getD (a .x .now) (360 + t .j) 0 = rw (decoded .wide .ensures .0) at (c .if1 .taken) in
+    (B .from, omega (arith, B .below, t .inv .1), B .most, B .start, λ R. best-all (a .rows .now) (a .x .now) (a .c) (t .j) (a .m) (t .best) B R over)
+
+key-of-requires : tie.Need-key-of-requires Inv-loop μ-loop
+key-of-requires c κs =
+    let loop = loop-of c in
+    let p = loop .before .pre in
+    let below = c .before .before .before .before .loop-test .taken in
+    (omega (arith, below, p .1), p .2 .kind (loop .loop .j) below, p .2 .first (loop .loop .j) below, p .2 .second (loop .loop .j) below)
+
+loop-again : tie.Need-loop-again Inv-loop μ-loop
+loop-again c =
+    let key = c .before in
+    let loop = loop-of (key .before) in
+    let below = key .before .before .before .before .before .loop-test .taken in
+    let a = loop .before .args in
+    let t = loop .loop in
+    (omega (arith, t .inv .0), omega (arith, below), best-more (a .rows .now) (a .x .now) (a .c) (t .j) (key .key-of .result) (t .best) _ (t .inv .2) (key .key-of .ensures) (c .better .ensures .0) (c .better .ensures .1))
+
+returns-2 : tie.Need-returns-2 Inv-loop μ-loop
+returns-2 c =
+    let t = c .before .loop in
+    let B = t .inv .2 in
+    let all : t .j ≡ c .before .before .args .m = omega (arith, c .loop-test .left, t .inv .1) in
+    (B .from, omega (arith, B .below, all), B .most, B .start, λ R i l h. B .least i l (omega (arith, h, all)))
+
+pub scan-spec : {M : Type 1} → statement M
+scan-spec =
+    tie.close
+    (tie.spec Inv-loop μ-loop (λ c. search needs) loop-holds (λ c. search needs) (λ c. search needs) (λ c. search needs) (λ c κs. search needs) returns key-of-requires (λ c κs. search needs) (λ c. search needs) (λ c. search needs) loop-again returns-2)

@@ -1,0 +1,3 @@
+pub mod InstructionRows
+pub mod NoteSteps
+pub mod PlayNotes

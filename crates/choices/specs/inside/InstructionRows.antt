@@ -1,0 +1,31 @@
+-- What the play asks of each instruction, four numbers in a row: its kind, its latency, and its two sources as numbers. Only
+-- promises of inside functions use these words.
+use Prim.Native.Nat.{ℕ, _+_, _*_, _≤_, _<_}
+use mathlib.Core.Path.{_≡_}
+use mathlib.Core.List.{List}
+use lib.ListN.{getD}
+use Rattle.record.specs.Refusals.{blockVerdict}
+use Rattle.record.specs.declared.Block.{Block}
+use Rattle.model.specs.Nodes.{entry, source}
+use Rattle.schedules.specs.inside.Executions.{Fitting}
+use Rattle.unpacked.specs.inside.UnpackedBlock.{code}
+
+-- the rows of the instructions of b under the latencies l
+pub record Rows (b : Block) (l rows : List ℕ) : Type 0 where
+  pub kind : (i : ℕ) → i < b .n → getD rows (4 * i) 0 ≡ entry b i .kind
+  pub takes : (i : ℕ) → i < b .n → getD rows (4 * i + 1) 0 ≡ getD l i 0
+  pub first : (i : ℕ) → i < b .n → getD rows (4 * i + 2) 0 ≡ code (source b (entry b i .reads1) i)
+  pub second : (i : ℕ) → i < b .n → getD rows (4 * i + 3) 0 ≡ code (source b (entry b i .reads2) i)
+
+-- the first m rows lead to a unit of one of four kinds, and to an instruction of 60 or to none
+pub record Leads (m : ℕ) (rows : List ℕ) : Type 0 where
+  pub kind : (i : ℕ) → i < m → getD rows (4 * i) 0 ≤ 3
+  pub first : (i : ℕ) → i < m → getD rows (4 * i + 2) 0 ≤ 60
+  pub second : (i : ℕ) → i < m → getD rows (4 * i + 3) 0 ≤ 60
+
+-- an accepted block, latencies that its entries allow, and its rows
+pub record Playing (b : Block) (l rows : List ℕ) : Type 0 where
+  pub accepted : blockVerdict b ≡ (0, 0)
+  pub cap : (i : ℕ) → entry b i .hi ≤ 255
+  pub fit : Fitting b l
+  pub has : Rows b l rows

@@ -1,0 +1,126 @@
+-- The EX of every play, by instruction, are served as a schedule demands: none starts before it is ready, one that is ready and
+-- waits does so for all units of its kind, and one that starts has a unit. Off EX a node starts when it is ready. Assumes nothing.
+use Prim.Native.Nat.{ℕ, _/_, _%_, _≤_, _<_}
+use mathlib.Core.Path.{_≡_, refl, _∙_}
+use mathlib.Core.Bool.{false}
+use mathlib.Core.List.{List}
+use native.Mathlib.Omega.{arith}
+use native.Mathlib.Decide.{decLe}
+use lib.Dec.{leb}
+use lib.ListN.{getD}
+use borrow.Author.Tests.{leb-true, le-leb}
+use Rattle.lists.proofs.Bools.{same-test}
+use Rattle.record.specs.Refusals.{blockVerdict}
+use Rattle.record.specs.declared.Block.{Block}
+use Rattle.record.proofs.AcceptedRanges.{ranges}
+use Rattle.model.specs.Nodes.{EX, nodes, node, instruction, isEX, entry, latency, highest, chosen}
+use Rattle.model.specs.Cycles.{start, finish, ready, play}
+use Rattle.model.proofs.Latencies.{latency-some, latency-mono}
+use Rattle.schedules.specs.inside.SumsBelow.{countBelow}
+use Rattle.schedules.specs.inside.Nets.{Net, Fits, Done, Sched, busy}
+use Rattle.schedules.specs.inside.Executions.{work, runsAt, Served, Fitting}
+use Rattle.schedules.proofs.Counting.{count-same}
+use Rattle.schedules.proofs.BlockNet.{ready-done, done-ready, count-instructions}
+use Rattle.schedules.proofs.PlayEnds.{limitNet, play-limit, play-started, play-sched}
+
+-- ---- the EX of instruction i
+
+-- is an EX
+stage-EX : (i : ℕ) → node EX i % 5 ≡ EX
+stage-EX i = omega arith
+
+-- of instruction i
+instruction-EX : (i : ℕ) → node EX i / 5 ≡ i
+instruction-EX i = omega arith
+
+-- stands before that of j as i does before j
+order-EX : (i j : ℕ) → leb (node EX i) (node EX j) ≡ leb i j
+order-EX i j =
+    same-test (leb (node EX i) (node EX j)) (leb i j)
+    (λ t. le-leb i j (omega (arith, leb-true (node EX i) (node EX j) t)))
+    (λ t. le-leb (node EX i) (node EX j) (omega (arith, leb-true i j t)))
+
+-- has the latency of i
+chosen-EX : (b : Block) (l : List ℕ) (i : ℕ) → chosen b l (node EX i) ≡ getD l i 0
+unfolding chosen latency
+chosen-EX b l i = rw (instruction-EX i, stage-EX i) refl
+
+module _ (b : Block) (z : blockVerdict b ≡ (0, 0)) (cap : (i : ℕ) → entry b i .hi ≤ 255) (l : List ℕ) (L : Fitting b l) where
+  -- ---- the latencies are inside their limits, and so are the times
+
+  -- no latency is 0
+  pub fitting-least : (v : ℕ) → v < nodes b → 1 ≤ chosen b l v
+  unfolding chosen
+  fitting-least v h =
+      let i : instruction v < b .n = omega arith in
+      latency-some _ v (omega (arith, L .least (instruction v) i, ranges b z .instruction (instruction v) i .lo))
+
+  -- none is above the highest
+  pub fitting-most : (v : ℕ) → v < nodes b → chosen b l v ≤ highest b v
+  unfolding chosen highest
+  fitting-most v h = latency-mono _ _ v (L .most (instruction v) (omega arith))
+
+  -- no node finishes after 30,780 cycles
+  pub play-most : (v : ℕ) → v < nodes b → finish (chosen b l) (play b (chosen b l)) v ≤ 30780
+  play-most v h = omega (arith, ranges b z .n .1, play-limit b z cap (chosen b l) fitting-least fitting-most v h)
+
+  -- ---- the play as a schedule
+  abbrev G : Net
+  G = limitNet b (ranges b z)
+
+  abbrev s : List ℕ
+  s = play b (chosen b l)
+
+  fits : Fits G (chosen b l)
+  fits = record { low = fitting-least; high = fitting-most }
+
+  sched : Sched G (chosen b l) 30780 (start s)
+  sched = play-sched b z cap (λ v. 1) (λ v h. omega arith) (chosen b l) fits
+
+  started : (v : ℕ) → v < nodes b → start s v < 30780
+  started = play-started b z cap (λ v. 1) (λ v h. omega arith) (chosen b l) fits
+
+  -- a ready time as a fact of the net
+  abbrev ready-by : (v x : ℕ) → ready b (chosen b l) s v ≤ x → Done G (chosen b l) (start s) v x
+  ready-by = ready-done b (ranges b z) (λ v. 1) (λ v h. omega arith) (chosen b l) s
+
+  -- no node starts before it is ready
+  ready-start : (v : ℕ) → v < nodes b → ready b (chosen b l) s v ≤ start s v
+  ready-start v h = done-ready b (ranges b z) (λ v. 1) (λ v h. omega arith) (chosen b l) s v (start s v) (sched .ready v h (started v h))
+
+  -- OFF EX A NODE STARTS WHEN IT IS READY
+  pub starts-ready : (v : ℕ) → v < nodes b → isEX v ≡ false → start (play b (chosen b l)) v ≡ ready b (chosen b l) (play b (chosen b l)) v
+  starts-ready v h off = omega (arith, ready-start v h, at-once (decLe (start s v) (ready b (chosen b l) s v)))
+    where
+      at-once : Dec (start s v ≤ ready b (chosen b l) s v) → start s v ≤ ready b (chosen b l) s v
+      at-once (yes g) = g
+      at-once (no g) = absurd (sched .prompt v (ready b (chosen b l) s v) h (rw off tt) (omega arith) (ready-by v _ (omega arith)))
+
+  -- ---- what runs, by instruction
+
+  -- an EX runs beside another as its instruction does
+  busy-runs : (i t j : ℕ) → busy G (chosen b l) (start s) (node EX i) t (node EX j) ≡ runsAt (work b l) i t j
+  unfolding busy runsAt
+  busy-runs i t j = rw (stage-EX j, instruction-EX j, instruction-EX i, chosen-EX b l j, order-EX i j) refl
+
+  -- nothing else takes a unit
+  off-EX : (i t u : ℕ) → isEX u ≡ false → busy G (chosen b l) (start s) (node EX i) t u ≡ false
+  unfolding busy
+  off-EX i t u e = rw e refl
+
+  -- so as many EX run as instructions do
+  count-runs : (i t : ℕ) → countBelow (nodes b) (busy G (chosen b l) (start s) (node EX i) t) ≡ countBelow (b .n) (runsAt (work b l) i t)
+  count-runs i t =
+      count-instructions (busy G (chosen b l) (start s) (node EX i) t) (off-EX i t) (b .n)
+      ∙ count-same (b .n) (λ j. busy G (chosen b l) (start s) (node EX i) t (node EX j)) (runsAt (work b l) i t) (λ j h. busy-runs i t j)
+
+  -- EVERY PLAY SERVES ITS EX
+  pub served : Served (work b l)
+  served =
+      record {
+        ready = λ i h. ready-start (node EX i) (omega arith);
+        waits = λ i t h r g.
+            rw (instruction-EX i, count-runs i t) at (sched .waits (node EX i) t (omega arith) (rw (stage-EX i) tt) g (ready-by (node EX i) t r));
+        room = λ i h. let v : node EX i < nodes b = omega arith in
+            rw (instruction-EX i, count-runs i (start s (node EX i))) at (sched .room (node EX i) v (rw (stage-EX i) tt) (started (node EX i) v));
+      }
