@@ -44,7 +44,8 @@ module _ (b : Block) (l rows : List ℕ) (P : Playing b l rows) (c m : ℕ) (x :
   pub next-notes : Notes b l c m (startedInto (v .at) (v .start) k y x)
   next-notes =
       let n = chosen-next b l rows P c m x N some all off v R in
-      notes-started b l rows P c m x N (v .at) (v .start) k y (R .below) (n .0) (n .1) (kind ∙ P .has .kind (v .at) few) (takes ∙ P .has .takes (v .at) few) from
+      notes-started b l rows P c m x N (v .at) (v .start) k y (R .below) (n .0) (n .1)
+      (kind ∙ P .has .kind (v .at) few) (takes ∙ P .has .takes (v .at) few) from
 
   pub next-less : left m (startedInto (v .at) (v .start) k y x) < left m x
   next-less =

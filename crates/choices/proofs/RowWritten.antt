@@ -1,5 +1,5 @@
 -- The row of an instruction all of whose times are noted is the play table's, and the rows together are the table. Assumes nothing.
-use Prim.Native.Nat.{ℕ, _+_, _-_, _*_, _%_, _≤_, _<_, max}
+use Prim.Native.Nat.{ℕ, _+_, _-_, _*_, _%_, _<_, max}
 use mathlib.Core.Path.{_≡_, refl, sym, ap, _∙_}
 use mathlib.Core.Bool.{true}
 use mathlib.Core.List.{List, [], _∷_, _++_}
@@ -15,7 +15,7 @@ use Rattle.schedules.proofs.PlayExecutions.{starts-ready}
 use Rattle.unpacked.specs.inside.ReadyByStage.{readyEX}
 use Rattle.unpacked.proofs.ReadyTimes.{stage-node}
 use Rattle.choices.specs.inside.InstructionRows.{Playing}
-use Rattle.choices.specs.inside.NoteSteps.{fixed, sourcesOf, rowInto}
+use Rattle.choices.specs.inside.NoteSteps.{fixed, sourcesOf, Noted, rowInto}
 use Rattle.choices.specs.inside.PlayNotes.{starts, ends, Notes}
 use Rattle.choices.proofs.PlayTimes.{execute-ready, ends-one, ends-EX, write-end}
 use Rattle.choices.proofs.StartChosen.{serves, start-most, sources-known}
@@ -76,13 +76,13 @@ module _ (b : Block) (l : List ℕ) where
     fetched-at : getD x (268 + c) 0 ≡ ends b l (node IF c)
     fetched-at = N .lines .fetched .each c (omega (arith, N .past))
 
-    pub decoded-at : getD x (360 + c) 0 ≡ ends b l (node ID c)
+    decoded-at : getD x (360 + c) 0 ≡ ends b l (node ID c)
     decoded-at = N .lines .decoded .each c (omega (arith, N .past))
 
-    pub written-at : getD x (c + 1) 0 ≡ ends b l (node WB c)
+    written-at : getD x (c + 1) 0 ≡ ends b l (node WB c)
     written-at = N .fixes .written c few has .0
 
-    pub committed-at : getD x (452 + c) 0 ≡ ends b l (node CM c)
+    committed-at : getD x (452 + c) 0 ≡ ends b l (node CM c)
     committed-at = N .lines .committed .each c (omega arith)
 
     three-fetch : getD x (176 + c) 0 ∷ getD x (176 + c) 0 ∷ getD x (268 + c) 0 ∷ [] ≡ three (5 * c)
@@ -120,9 +120,10 @@ module _ (b : Block) (l : List ℕ) where
         (table-more o t _ (5 * c) (node ID c) (15 * c) (omega arith) (omega arith) three-fetch e))))
 
     -- ---- what the code takes away is there
-    pub row-fits : (1 ≤ getD x (360 + c) 0) × (getD rows (4 * c + 1) 0 + 1 ≤ getD x (c + 1) 0) × (1 ≤ getD x (452 + c) 0)
-    row-fits = (
-      omega (arith, decoded-at, ends-one b l rows P ID c (omega arith) (λ e. omega arith)),
-      omega (arith, written-at, write-end b l rows P c few, P .has .takes c few),
-      omega (arith, committed-at, ends-one b l rows P CM c (omega arith) (λ e. omega arith)),
-    )
+    pub row-noted : Noted rows x c
+    row-noted =
+        record {
+          decoded = omega (arith, decoded-at, ends-one b l rows P ID c (omega arith) (λ e. omega arith));
+          written = omega (arith, written-at, write-end b l rows P c few, P .has .takes c few);
+          committed = omega (arith, committed-at, ends-one b l rows P CM c (omega arith) (λ e. omega arith));
+        }

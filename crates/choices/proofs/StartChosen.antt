@@ -54,12 +54,14 @@ module _ (b : Block) (l rows : List ℕ) (P : Playing b l rows) where
   start-most i h = omega (arith, ends-EX b l rows P i, ends-most b l rows P EX i (omega arith) h)
 
   -- the rows lead where they should
-  pub leads : (m : ℕ) → m ≤ b .n → Leads m rows
-  leads m h =
+  pub leads : (i : ℕ) → i < b .n → Leads i rows
+  leads i h =
       record {
-        kind = λ i k. omega (arith, P .has .kind i (omega arith), A .instruction i (omega arith) .kind);
-        first = λ i k. omega (arith, A .n .1, P .has .first i (omega arith), source-most b (entry b i .reads1) i);
-        second = λ i k. omega (arith, A .n .1, P .has .second i (omega arith), source-most b (entry b i .reads2) i);
+        few = omega (arith, A .n .1);
+        kind = omega (arith, P .has .kind i h, A .instruction i h .kind);
+        takes = omega (arith, P .has .takes i h, P .fit .most i h, P .cap i);
+        first = omega (arith, A .n .1, P .has .first i h, source-most b (entry b i .reads1) i);
+        second = omega (arith, A .n .1, P .has .second i h, source-most b (entry b i .reads2) i);
       }
 
   -- ---- units: the first of a kind's four numbers is the first time at which one is free
@@ -237,7 +239,9 @@ module _ (b : Block) (l rows : List ℕ) (P : Playing b l rows) where
           let g : i < b .n = omega (arith, R .below, N .few) in
           let out = unstarted k in
           ⊎-elim
-          (λ r. (out, least W serves (fixed x) (N .fixes .front) never start-most i (endOf rows x i) (v .start) g out (free-at i g) (R .start ∙ rw r refl) (behind h)))
+          (λ r.
+          let t = R .start ∙ rw r refl in
+          (out, least W serves (fixed x) (N .fixes .front) never start-most i (endOf rows x i) (v .start) g out (free-at i g) t (behind h)))
           (λ w. absurd (omega (arith, w .1, R .start, k)))
           (ready-or i (R .below) out)
         where

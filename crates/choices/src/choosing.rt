@@ -1,15 +1,11 @@
 // EX: its starts are fixed one by one.
 ghost use mathlib.Core.Path.{_≡_};
-ghost use mathlib.Core.Bool.{true};
-ghost use mathlib.Core.List.{List};
-ghost use Prim.Native.Nat.{ℕ, _+_, _*_, _≤_, _<_, min, max};
-ghost use lib.ListN.{getD};
+ghost use Prim.Native.Nat.{ℕ, _≤_, _<_, min};
 ghost use lib.Dec.{ltb};
 ghost use Rattle.lists.specs.Lists.{pick};
-ghost use Rattle.record.specs.declared.Block.{Block};
-ghost use Rattle.choices.specs.inside.InstructionRows.{Leads, Playing};
-ghost use Rattle.choices.specs.inside.NoteSteps.{fixed, sourcesOf, readyOf, endOf, keyOf, Rising, Chooses, heldInto, startedInto};
-ghost use Rattle.choices.specs.inside.PlayNotes.{Notes, Underway};
+ghost use Rattle.choices.specs.inside.InstructionRows.{Leads};
+ghost use Rattle.choices.specs.inside.NoteSteps.{never, sourcesOf, readyOf, endOf, keyOf, Soonest, Chooses, heldInto, startedInto};
+ghost use Rattle.choices.specs.inside.PlayNotes.{Underway, StartsUntil};
 use crate::Choice;
 use crate::DECODED;
 use crate::ENDS;
@@ -24,7 +20,7 @@ use unpacked::wide;
 
 // The later finish of the sources of instruction i.
 pub fn sources_of(i: usize, rows: &[u8; 240], x: &[u16; 512]) -> u32
-    requires { ⌜ (i < 60) × (getD (now rows) (4 * i + 2) 0 ≤ 60) × (getD (now rows) (4 * i + 3) 0 ≤ 60) ⌝ }
+    requires { ⌜ Leads i (now rows) ⌝ }
     ensures { λ r. ⌜ (r ≡ sourcesOf (now (rows .entry)) (now (x .entry)) i) × (r ≤ 65535) ⌝ }
 {
     let first = index(rows[4 * i + 2]);
@@ -34,7 +30,7 @@ pub fn sources_of(i: usize, rows: &[u8; 240], x: &[u16; 512]) -> u32
 
 // The ready time of EX of instruction i, and NEVER where that is not known or it has a start.
 fn ready_of(i: usize, rows: &[u8; 240], x: &[u16; 512]) -> u32
-    requires { ⌜ (i < 60) × (getD (now rows) (4 * i + 2) 0 ≤ 60) × (getD (now rows) (4 * i + 3) 0 ≤ 60) ⌝ }
+    requires { ⌜ Leads i (now rows) ⌝ }
     ensures { λ r. ⌜ (r ≡ readyOf (now (rows .entry)) (now (x .entry)) i) × (r ≤ 65535) ⌝ }
 {
     larger(wide(x[WAITING + i]), sources_of(i, rows, x))
@@ -42,7 +38,7 @@ fn ready_of(i: usize, rows: &[u8; 240], x: &[u16; 512]) -> u32
 
 // From when on a unit of its kind is free.
 fn end_of(i: usize, rows: &[u8; 240], x: &[u16; 512]) -> u32
-    requires { ⌜ (i < 60) × (getD (now rows) (4 * i) 0 ≤ 3) ⌝ }
+    requires { ⌜ Leads i (now rows) ⌝ }
     ensures { λ r. ⌜ (r ≡ endOf (now (rows .entry)) (now (x .entry)) i) × (r ≤ 65535) ⌝ }
 {
     let k = index(rows[4 * i]);
@@ -51,7 +47,7 @@ fn end_of(i: usize, rows: &[u8; 240], x: &[u16; 512]) -> u32
 
 // From when on EX of instruction i can start. The maxima are taken two and two: of three in a row the compiler makes branches.
 fn key_of(i: usize, rows: &[u8; 240], x: &[u16; 512]) -> u32
-    requires { ⌜ (i < 60) × (getD (now rows) (4 * i) 0 ≤ 3) × (getD (now rows) (4 * i + 2) 0 ≤ 60) × (getD (now rows) (4 * i + 3) 0 ≤ 60) ⌝ }
+    requires { ⌜ Leads i (now rows) ⌝ }
     ensures { λ r. ⌜ r ≡ keyOf (now (rows .entry)) (now (x .entry)) i ⌝ }
 {
     larger(
@@ -73,8 +69,8 @@ fn better(best: Choice, i: usize, key: u32) -> Choice
 
 // The one that can start first, of the instructions from c on and below m: c can from r on.
 fn scan(c: usize, m: usize, r: u32, rows: &[u8; 240], x: &[u16; 512]) -> Choice
-    requires { ⌜ (c < m) × (m ≤ 60) × Leads m (now rows) × (r ≤ 65535) × (r ≡ keyOf (now rows) (now x) c) ⌝ }
-    ensures { λ v. ⌜ (c ≤ v .at) × (v .at < m) × (v .start ≤ 65535) × (v .start ≡ keyOf (now (rows .entry)) (now (x .entry)) (v .at)) × (Rising m (now (x .entry)) → (j : ℕ) → c ≤ j → j < m → (v .start ≤ keyOf (now (rows .entry)) (now (x .entry)) j) × (j < v .at → v .start < keyOf (now (rows .entry)) (now (x .entry)) j)) ⌝ }
+    requires { ⌜ (c < m) × (m ≤ 60) × ((i : ℕ) → i < m → Leads i (now rows)) × (r ≤ never) × (r ≡ keyOf (now rows) (now x) c) ⌝ }
+    ensures { λ v. ⌜ Soonest c m (now (rows .entry)) (now (x .entry)) v ⌝ }
 {
     let mut best = Choice { at: c, start: r };
     let mut j = c + 1;
@@ -91,8 +87,8 @@ fn scan(c: usize, m: usize, r: u32, rows: &[u8; 240], x: &[u16; 512]) -> Choice
 // The next EX to start, that of c being the oldest that has not: c where it is ready by its unit's time, else the one that
 // can start first.
 fn choose(c: usize, m: usize, rows: &[u8; 240], x: &[u16; 512]) -> Choice
-    requires { ⌜ (c < m) × (m ≤ 60) × Leads m (now rows) ⌝ }
-    ensures { λ r. ⌜ Chooses c m (now (rows .entry)) (now (x .entry)) r × (r .start ≤ 65535) ⌝ }
+    requires { ⌜ (c < m) × (m ≤ 60) × ((i : ℕ) → i < m → Leads i (now rows)) ⌝ }
+    ensures { λ r. ⌜ Chooses c m (now (rows .entry)) (now (x .entry)) r ⌝ }
 {
     let r = ready_of(c, rows, x);
     let e = end_of(c, rows, x);
@@ -133,7 +129,7 @@ fn start_one(i: usize, t: u32, k: usize, l: u32, x: &mut [u16; 512])
 // EX starts until that of instruction c has one.
 pub fn until_started(c: usize, m: usize, rows: &[u8; 240], x: &mut [u16; 512])
     requires { ⌜ Underway c m (now rows) (now x) ⌝ }
-    ensures { λ _. ⌜ ((b : Block) (l : List ℕ) → Playing b l (now (rows .entry)) → min (b .n) (c + b .w) ≤ m → Notes b l c m (now (x .entry)) → Notes b l c m (now (x .exit)) × (fixed (now (x .exit)) c ≡ true)) ⌝ }
+    ensures { λ _. ⌜ StartsUntil c m (now (rows .entry)) (now (x .entry)) (now (x .exit)) ⌝ }
 {
     while x[c + 1] == NEVER {
         let v = choose(c, m, rows, x);

@@ -1,14 +1,15 @@
 // The play table, a row when an instruction commits.
 ghost use mathlib.Core.Path.{_≡_};
 ghost use mathlib.Core.List.{[], _∷_, _++_};
-ghost use Prim.Native.Nat.{_+_, _*_, _≤_, _<_, min};
-ghost use lib.ListN.{length, getD, drop};
+ghost use Prim.Native.Nat.{_+_, _*_, _≤_, min};
+ghost use lib.ListN.{length, drop};
 ghost use Rattle.lists.specs.Lists.{put};
 ghost use Rattle.record.specs.Refusals.{blockVerdict};
 ghost use Rattle.model.specs.Nodes.{chosen};
 ghost use Rattle.model.specs.Cycles.{playTable};
 ghost use Rattle.schedules.specs.inside.Executions.{Fitting};
-ghost use Rattle.choices.specs.inside.NoteSteps.{rowInto};
+ghost use Rattle.choices.specs.inside.InstructionRows.{Leads};
+ghost use Rattle.choices.specs.inside.NoteSteps.{Noted, rowInto};
 use crate::COMMITTED;
 use crate::DECODED;
 use crate::FETCH;
@@ -37,8 +38,7 @@ fn put_three(ready: u16, start: u16, finish: u16, at: usize, out: &mut [u16])
 
 // The row of instruction i, all of whose times are noted.
 fn put_row(i: usize, rows: &[u8; 240], x: &[u16; 512], out: &mut [u16])
-    requires { ⌜ (i < 60) × (15 * i + 15 ≤ length (now out)) × (getD (now rows) (4 * i + 2) 0 ≤ 60) × (getD (now rows) (4 * i + 3) 0 ≤ 60) × (getD (now rows) (4 * i + 1) 0 ≤ 255) ⌝ }
-    requires { ⌜ (1 ≤ getD (now x) (360 + i) 0) × (getD (now rows) (4 * i + 1) 0 + 1 ≤ getD (now x) (i + 1) 0) × (1 ≤ getD (now x) (452 + i) 0) ⌝ }
+    requires { ⌜ (15 * i + 15 ≤ length (now out)) × Leads i (now rows) × Noted (now rows) (now x) i ⌝ }
     ensures { λ _. ⌜ now (out .exit) ≡ rowInto (now (rows .entry)) (now (x .entry)) i (now (out .entry)) ⌝ }
 {
     let f = x[FETCH + i];

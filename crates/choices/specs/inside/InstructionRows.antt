@@ -17,11 +17,13 @@ pub record Rows (b : Block) (l rows : List ℕ) : Type 0 where
   pub first : (i : ℕ) → i < b .n → getD rows (4 * i + 2) 0 ≡ code (source b (entry b i .reads1) i)
   pub second : (i : ℕ) → i < b .n → getD rows (4 * i + 3) 0 ≡ code (source b (entry b i .reads2) i)
 
--- the first m rows lead to a unit of one of four kinds, and to an instruction of 60 or to none
-pub record Leads (m : ℕ) (rows : List ℕ) : Type 0 where
-  pub kind : (i : ℕ) → i < m → getD rows (4 * i) 0 ≤ 3
-  pub first : (i : ℕ) → i < m → getD rows (4 * i + 2) 0 ≤ 60
-  pub second : (i : ℕ) → i < m → getD rows (4 * i + 3) 0 ≤ 60
+-- row i is that of one of 60 instructions, and leads to one of four kinds and to an instruction or to none
+pub record Leads (i : ℕ) (rows : List ℕ) : Type 0 where
+  pub few : i < 60
+  pub kind : getD rows (4 * i) 0 ≤ 3
+  pub takes : getD rows (4 * i + 1) 0 ≤ 255
+  pub first : getD rows (4 * i + 2) 0 ≤ 60
+  pub second : getD rows (4 * i + 3) 0 ≤ 60
 
 -- an accepted block, latencies that its entries allow, and its rows
 pub record Playing (b : Block) (l rows : List ℕ) : Type 0 where

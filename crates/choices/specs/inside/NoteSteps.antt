@@ -6,9 +6,11 @@ use Prim.Native.Nat.{ℕ, _+_, _-_, _*_, _%_, _≤_, _<_, min, max}
 use mathlib.Core.Path.{_≡_}
 use mathlib.Core.Bool.{Bool, not}
 use mathlib.Core.List.{List, [], _∷_}
-use lib.ListN.{getD, set}
-use lib.Dec.{eqb}
-use Rattle.lists.specs.Lists.{put}
+use lib.ListN.{length, getD, set}
+use lib.Dec.{ltb, eqb}
+use Rattle.lists.specs.Lists.{pick, put}
+use Rattle.record.specs.declared.Block.{Block}
+use Rattle.model.specs.Cycles.{units}
 use Rattle.unpacked.specs.declared.Shape.{Shape}
 use Rattle.choices.specs.declared.Choice.{Choice}
 
@@ -20,7 +22,24 @@ never = 65535
 abbrev pub fixed : List ℕ → ℕ → Bool
 fixed x i = not (eqb (getD x (i + 1) 0) never)
 
+-- ---- before the play
+
+-- all units free: the number of unit z of kind k is 0, and `never` where there is no such unit; the rest is as it was
+pub record UnitsFree (x x′ : List ℕ) : Type 0 where
+  pub long : length x′ ≡ 512
+  pub free : (b : Block) (k z : ℕ) → k < 4 → z < 4 → getD x′ (128 + 4 * k + z) 0 ≡ pick (ltb z (units b k)) 0 never
+  pub below : (p : ℕ) → p < 128 → getD x′ p 0 ≡ getD x p 0
+  pub above : (p : ℕ) → 144 ≤ p → getD x′ p 0 ≡ getD x p 0
+
 -- ---- off EX
+
+-- no number of the header leads back over the 32 zeros
+pub record Narrow (h : Shape) : Type 0 where
+  pub q : h .q ≤ 32
+  pub w : h .w ≤ 32
+  pub f : h .f ≤ 32
+  pub d : h .d ≤ 32
+  pub c : h .c ≤ 32
 
 -- the start of IF(i)
 unfoldable pub fetchOf : Shape → ℕ → List ℕ → ℕ
@@ -67,11 +86,19 @@ keyOf rows x i = max (readyOf rows x i) (endOf rows x i)
 pub record Rising (m : ℕ) (x : List ℕ) : Type 0 where
   pub each : (i j : ℕ) → i ≤ j → j < m → getD x (360 + i) 0 ≤ getD x (64 + j) 0
 
--- the choice among the instructions from c on and below m: c where it is ready by its unit's time, else the one that can
--- start first, and of several the first
+-- of the instructions from c on and below m the one that can start first, and of several the first
+pub record Soonest (c m : ℕ) (rows x : List ℕ) (r : Choice) : Type 0 where
+  pub from : c ≤ r .at
+  pub below : r .at < m
+  pub most : r .start ≤ never
+  pub start : r .start ≡ keyOf rows x (r .at)
+  pub least : Rising m x → (j : ℕ) → c ≤ j → j < m → (r .start ≤ keyOf rows x j) × (j < r .at → r .start < keyOf rows x j)
+
+-- the choice among them: c where it is ready by its unit's time, else the one that can start first
 pub record Chooses (c m : ℕ) (rows x : List ℕ) (r : Choice) : Type 0 where
   pub from : c ≤ r .at
   pub below : r .at < m
+  pub most : r .start ≤ never
   pub start : r .start ≡ keyOf rows x (r .at)
   pub oldest : readyOf rows x c ≤ endOf rows x c → r .at ≡ c
   pub least : endOf rows x c < readyOf rows x c → Rising m x → (j : ℕ) → c ≤ j → j < m
@@ -94,6 +121,12 @@ unfoldable pub startedInto : ℕ → ℕ → ℕ → ℕ → List ℕ → List �
 startedInto i t k l x = heldInto k (t + l) (set (set x (64 + i) never) (i + 1) ((t + l + 1) % 65536))
 
 -- ---- the table
+
+-- what the row of instruction i takes away from its finishes is in them
+pub record Noted (rows x : List ℕ) (i : ℕ) : Type 0 where
+  pub decoded : 1 ≤ getD x (360 + i) 0
+  pub written : getD rows (4 * i + 1) 0 + 1 ≤ getD x (i + 1) 0
+  pub committed : 1 ≤ getD x (452 + i) 0
 
 -- the row of instruction i written, all of whose times are noted
 unfoldable pub rowInto : List ℕ → List ℕ → ℕ → List ℕ → List ℕ

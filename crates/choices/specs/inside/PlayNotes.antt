@@ -10,6 +10,8 @@ use Rattle.record.specs.declared.Block.{Block}
 use Rattle.model.specs.Nodes.{IF, ID, WB, CM, node, chosen}
 use Rattle.model.specs.Cycles.{start, finish, units, play}
 use Rattle.schedules.specs.inside.Executions.{work, held, Front}
+use Rattle.unpacked.specs.inside.UnpackedBlock.{Shapes}
+use Rattle.unpacked.specs.declared.Shape.{Shape}
 use Rattle.choices.specs.inside.InstructionRows.{Playing}
 use Rattle.choices.specs.inside.NoteSteps.{never, fixed}
 
@@ -75,3 +77,16 @@ pub record Underway (c m : ℕ) (rows x : List ℕ) : Type 0 where
   pub notes : Notes b l c m x
   pub some : c < m
   pub all : min (b .n) (c + b .w) ≤ m
+
+-- the notes before the play
+pub record FirstNotes (x : List ℕ) : Type 0 where
+  pub notes : (b : Block) (l rows : List ℕ) → Playing b l rows → Notes b l 0 0 x
+
+-- IF and ID of the instructions from `from` on and below `end` are noted, whatever c is
+pub record DecodesUntil (h : Shape) (from end : ℕ) (x x′ : List ℕ) : Type 0 where
+  pub notes : (b : Block) (l rows : List ℕ) (c : ℕ) → Playing b l rows → Shapes b h → from ≤ end → end ≤ min (b .n) (c + b .w)
+      → Notes b l c from x → Notes b l c end x′
+
+-- the EX starts up to that of c are fixed
+pub record StartsUntil (c m : ℕ) (rows x x′ : List ℕ) : Type 0 where
+  pub notes : (b : Block) (l : List ℕ) → Playing b l rows → min (b .n) (c + b .w) ≤ m → Notes b l c m x → Notes b l c m x′ × (fixed x′ c ≡ true)

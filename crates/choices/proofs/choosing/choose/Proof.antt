@@ -7,14 +7,10 @@ use Rattle.choices.proofs.choosing.choose.Statement.{statement}
 use Rattle.choices.proofs.choosing.choose.Tie as tie
 
 ready-of-requires : tie.Need-ready-of-requires
-ready-of-requires c κs =
-    let p = c .pre in
-    (omega (arith, p .0, p .1), p .2 .first (c .args .c) (p .0), p .2 .second (c .args .c) (p .0))
+ready-of-requires c κs = c .pre .2 (c .args .c) (c .pre .0)
 
 end-of-requires : tie.Need-end-of-requires
-end-of-requires c κs =
-    let p = c .before .pre in
-    (omega (arith, p .0, p .1), p .2 .kind (c .before .args .c) (p .0))
+end-of-requires c κs = c .before .pre .2 (c .before .args .c) (c .before .pre .0)
 
 returns : tie.Need-returns
 unfolding keyOf
@@ -22,16 +18,15 @@ returns c =
     let end = c .before .end-of .ensures in
     let ready = c .before .before .ready-of .ensures in
     let a = c .before .before .before .args in
-    let by : readyOf (a .rows .now) (a .x .now) (a .c) ≤ endOf (a .rows .now) (a .x .now) (a .c) = omega (arith, c .if1 .taken, ready .0, end .0) in (
-      record {
-        from = omega arith;
-        below = c .before .before .before .pre .0;
-        start = omega (arith, end .0, by);
-        oldest = λ h. refl;
-        least = λ h. absurd (omega (arith, h, by));
-      },
-      end .1,
-    )
+    let by : readyOf (a .rows .now) (a .x .now) (a .c) ≤ endOf (a .rows .now) (a .x .now) (a .c) = omega (arith, c .if1 .taken, ready .0, end .0) in
+    record {
+      from = omega arith;
+      below = c .before .before .before .pre .0;
+      most = end .1;
+      start = omega (arith, end .0, by);
+      oldest = λ h. refl;
+      least = λ h. absurd (omega (arith, h, by));
+    }
 
 scan-requires : tie.Need-scan-requires
 unfolding keyOf
@@ -46,16 +41,15 @@ returns-2 c =
     let end = c .before .before .end-of .ensures in
     let ready = c .before .before .before .ready-of .ensures in
     let a = c .before .before .before .before .args in
-    let after : endOf (a .rows .now) (a .x .now) (a .c) < readyOf (a .rows .now) (a .x .now) (a .c) = omega (arith, c .before .if1 .left, ready .0, end .0) in (
-      record {
-        from = scan .0;
-        below = scan .1;
-        start = scan .3;
-        oldest = λ h. absurd (omega (arith, h, after));
-        least = λ h. scan .4;
-      },
-      scan .2,
-    )
+    let after : endOf (a .rows .now) (a .x .now) (a .c) < readyOf (a .rows .now) (a .x .now) (a .c) = omega (arith, c .before .if1 .left, ready .0, end .0) in
+    record {
+      from = scan .from;
+      below = scan .below;
+      most = scan .most;
+      start = scan .start;
+      oldest = λ h. absurd (omega (arith, h, after));
+      least = λ h. scan .least;
+    }
 
 pub choose-spec : {M : Type 1} → statement M
 choose-spec =

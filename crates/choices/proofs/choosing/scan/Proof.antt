@@ -31,15 +31,19 @@ returns c =
     let a = loop .before .args in
     let t = loop .loop in
     let B = t .inv .2 in
-    let over : t .best .start ≤ getD (a .x .now) (360 + t .j) 0 = rw (decoded .wide .ensures .0) at (c .if1 .taken) in
-    (B .from, omega (arith, B .below, t .inv .1), B .most, B .start, λ R. best-all (a .rows .now) (a .x .now) (a .c) (t .j) (a .m) (t .best) B R over)
+    let over : t .best .start ≤ getD (a .x .now) (360 + t .j) 0 = omega (arith, decoded .wide .ensures .0, c .if1 .taken) in
+    record {
+      from = B .from;
+      below = omega (arith, B .below, t .inv .1);
+      most = B .most;
+      start = B .start;
+      least = λ R. best-all (a .rows .now) (a .x .now) (a .c) (t .j) (a .m) (t .best) B R over;
+    }
 
 key-of-requires : tie.Need-key-of-requires Inv-loop μ-loop
 key-of-requires c κs =
     let loop = loop-of c in
-    let p = loop .before .pre in
-    let below = c .before .before .before .before .loop-test .taken in
-    (omega (arith, below, p .1), p .2 .kind (loop .loop .j) below, p .2 .first (loop .loop .j) below, p .2 .second (loop .loop .j) below)
+    loop .before .pre .2 (loop .loop .j) (c .before .before .before .before .loop-test .taken)
 
 loop-again : tie.Need-loop-again Inv-loop μ-loop
 loop-again c =
@@ -48,16 +52,28 @@ loop-again c =
     let below = key .before .before .before .before .before .loop-test .taken in
     let a = loop .before .args in
     let t = loop .loop in
-    (omega (arith, t .inv .0), omega (arith, below), best-more (a .rows .now) (a .x .now) (a .c) (t .j) (key .key-of .result) (t .best) _ (t .inv .2) (key .key-of .ensures) (c .better .ensures .0) (c .better .ensures .1))
+    let B =
+    best-more (a .rows .now) (a .x .now) (a .c) (t .j) (key .key-of .result) (t .best) _ (t .inv .2) (key .key-of .ensures)
+    (c .better .ensures .0) (c .better .ensures .1)
+    in
+    (omega (arith, t .inv .0), omega (arith, below), B)
 
 returns-2 : tie.Need-returns-2 Inv-loop μ-loop
 returns-2 c =
     let t = c .before .loop in
     let B = t .inv .2 in
     let all : t .j ≡ c .before .before .args .m = omega (arith, c .loop-test .left, t .inv .1) in
-    (B .from, omega (arith, B .below, all), B .most, B .start, λ R i l h. B .least i l (omega (arith, h, all)))
+    record {
+      from = B .from;
+      below = omega (arith, B .below, all);
+      most = B .most;
+      start = B .start;
+      least = λ R i l h. B .least i l (omega (arith, h, all));
+    }
 
 pub scan-spec : {M : Type 1} → statement M
 scan-spec =
     tie.close
-    (tie.spec Inv-loop μ-loop (λ c. search needs) loop-holds (λ c. search needs) (λ c. search needs) (λ c. search needs) (λ c κs. search needs) returns key-of-requires (λ c κs. search needs) (λ c. search needs) (λ c. search needs) loop-again returns-2)
+    (tie.spec Inv-loop μ-loop (λ c. search needs) loop-holds (λ c. search needs) (λ c. search needs) (λ c. search needs)
+    (λ c κs. search needs) returns key-of-requires (λ c κs. search needs) (λ c. search needs) (λ c. search needs)
+    loop-again returns-2)

@@ -30,8 +30,8 @@ module _ (c : tie.Start Inv-loop μ-loop) where
   few : c .args .m ≤ 60
   few = let U = c .pre in omega (arith, U .notes .few, ranges (U .b) (U .playing .accepted) .n .1)
 
-  led : Leads (c .args .m) (c .args .rows .now)
-  led = let U = c .pre in leads (U .b) (U .l) (c .args .rows .now) (U .playing) (c .args .m) (U .notes .few)
+  led : (i : ℕ) → i < c .args .m → Leads i (c .args .rows .now)
+  led i h = let U = c .pre in leads (U .b) (U .l) (c .args .rows .now) (U .playing) i (omega (arith, U .notes .few))
 
 -- the places of a turn
 abbrev choice-of : tie.After-start-one-arg Inv-loop μ-loop → tie.After-choose Inv-loop μ-loop
@@ -57,7 +57,7 @@ choose-requires c κs = let s = loop-of (c .before) .before in (s .pre .some, fe
 
 -- the instruction chosen is one of the decoded
 near : (c : tie.After-choose Inv-loop μ-loop) → c .choose .result .at < 60
-near c = omega (arith, c .choose .ensures .0 .below, few (loop-of (test-of c) .before))
+near c = omega (arith, c .choose .ensures .below, few (loop-of (test-of c) .before))
 
 mul-index : tie.Need-mul-index Inv-loop μ-loop
 mul-index c = record { fits = omega (arith, near c) }
@@ -77,8 +77,8 @@ element-copy-out-small c = omega (arith, near (c .before .before))
 start-one-requires : tie.Need-start-one-requires Inv-loop μ-loop
 start-one-requires c κs =
     let v = choice-of c in
-    let L = led (loop-of (test-of v) .before) in
-    (near v, v .choose .ensures .1, omega (arith, c .before .before .before .index .ensures, L .kind (v .choose .result .at) (v .choose .ensures .0 .below)), c .before .small .ensures .1)
+    let L = led (loop-of (test-of v) .before) (v .choose .result .at) (v .choose .ensures .below) in
+    (near v, v .choose .ensures .most, omega (arith, c .before .before .before .index .ensures, L .kind), c .before .small .ensures .1)
 
 -- ---- one start more
 module _ (c : tie.After-start-one Inv-loop μ-loop) where
@@ -94,22 +94,25 @@ module _ (c : tie.After-start-one Inv-loop μ-loop) where
   abbrev y : ℕ
   y = c .before .before .small .result
 
+  abbrev after : List ℕ
+  after = startedInto (v .choose .result .at) (v .choose .result .start) k y (loop .loop .x)
+
   off : fixed (loop .loop .x) (loop .before .args .c) ≡ false
   off = ap not (eq-eqb _ never (test-of v .if1 .taken))
 
   module _ (b : Block) (l : List ℕ) (P : Playing b l (loop .before .args .rows .now))
       (all : min (b .n) (loop .before .args .c + b .w) ≤ loop .before .args .m)
       (N : Notes b l (loop .before .args .c) (loop .before .args .m) (loop .before .args .x .now)) where
-    notes-next : Notes b l (loop .before .args .c) (loop .before .args .m) (startedInto (v .choose .result .at) (v .choose .result .start) k y (loop .loop .x))
+    notes-next : Notes b l (loop .before .args .c) (loop .before .args .m) after
     notes-next =
         next-notes b l (loop .before .args .rows .now) P (loop .before .args .c) (loop .before .args .m) (loop .loop .x) (loop .loop .inv b l P all N)
-        (loop .before .pre .some) all off (v .choose .result) (v .choose .ensures .0) k y
+        (loop .before .pre .some) all off (v .choose .result) (v .choose .ensures) k y
         (c .before .before .before .before .index .ensures) (c .before .before .small .ensures .0)
 
-    less-next : left (loop .before .args .m) (startedInto (v .choose .result .at) (v .choose .result .start) k y (loop .loop .x)) < left (loop .before .args .m) (loop .loop .x)
+    less-next : left (loop .before .args .m) after < left (loop .before .args .m) (loop .loop .x)
     less-next =
         next-less b l (loop .before .args .rows .now) P (loop .before .args .c) (loop .before .args .m) (loop .loop .x) (loop .loop .inv b l P all N)
-        (loop .before .pre .some) all off (v .choose .result) (v .choose .ensures .0) k y
+        (loop .before .pre .some) all off (v .choose .result) (v .choose .ensures) k y
         (c .before .before .before .before .index .ensures) (c .before .before .small .ensures .0)
 
 loop-less : tie.Need-loop-less Inv-loop μ-loop
@@ -119,12 +122,11 @@ loop-again : tie.Need-loop-again Inv-loop μ-loop
 loop-again c b l P all N = rw (c .start-one .ensures) (notes-next c b l P all N)
 
 returns : tie.Need-returns Inv-loop μ-loop
-returns c b l P all N =
-    let t = c .before .before .loop in
-    (t .inv b l P all N, ap not (ne-eqb _ never (c .if1 .left)))
+returns c = record { notes = λ b l P all N. (c .before .before .loop .inv b l P all N, ap not (ne-eqb _ never (c .if1 .left))) }
 
 pub until-started-spec : {M : Type 1} → statement M
 until-started-spec =
     tie.close
-    (tie.spec Inv-loop μ-loop loop-holds add-if1 mul-if1 element-copy-out-if1 choose-requires mul-index element-copy-out-index (λ c κs. search needs)
+    (tie.spec Inv-loop μ-loop loop-holds add-if1 mul-if1 element-copy-out-if1 choose-requires mul-index
+    element-copy-out-index (λ c κs. search needs)
     mul-small add-small element-copy-out-small (λ c κs. search needs) start-one-requires loop-less loop-again returns)

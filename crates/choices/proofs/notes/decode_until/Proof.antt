@@ -37,11 +37,14 @@ loop-again c =
     )
 
 returns : tie.Need-returns Inv-loop μ-loop
-returns c b l rows d P H k e N =
+returns c =
     let t = c .before .loop in
-    let q = t .inv .1 k in
-    let last : t .i ≡ c .before .before .args .end = omega arith in
-    rw (← last) (t .inv .2 b l rows d P H e N)
+    record {
+      notes = λ b l rows d P H k e N.
+          let q = t .inv .1 k in
+          let last : t .i ≡ c .before .before .args .end = omega arith in
+          rw (← last) (t .inv .2 b l rows d P H e N);
+    }
 
 pub decode-until-spec : {M : Type 1} → statement M
 decode-until-spec =

@@ -45,15 +45,18 @@ units-into-requires : tie.Need-units-into-requires Inv-loop μ-loop
 units-into-requires c κs = c .before .before .loop .inv .1
 
 returns : tie.Need-returns Inv-loop μ-loop
-returns c b l rows P =
+returns c =
     let t = c .before .before .before .loop in
     let u = c .units-into .ensures in
     let last : t .i ≡ 60 = search needs in
-    notes-first b l rows P _ (u .3)
-    (u .1 0 (omega arith) ∙ t .inv .3 0 (λ g h. omega arith))
-    (λ i h. u .1 (i + 1) (omega arith) ∙ t .inv .2 i (omega arith))
-    (u .0 b)
-    (λ p h. u .2 p h ∙ t .inv .3 p (λ g k. omega arith))
+    record {
+      notes = λ b l rows P.
+          notes-first b l rows P _ (u .long)
+          (u .below 0 (omega arith) ∙ t .inv .3 0 (λ g h. omega arith))
+          (λ i h. u .below (i + 1) (omega arith) ∙ t .inv .2 i (omega arith))
+          (u .free b)
+          (λ p h. u .above p h ∙ t .inv .3 p (λ g k. omega arith));
+    }
 
 pub first-notes-spec : {M : Type 1} → statement M
 first-notes-spec =

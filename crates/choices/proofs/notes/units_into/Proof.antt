@@ -52,15 +52,16 @@ loop-again c =
 
 returns : tie.Need-returns Inv-loop μ-loop
 returns c =
-    let i = c .before .loop .inv in (
-      λ b k z h o.
+    let i = c .before .loop .inv in
+    record {
+      long = i .1;
+      free = λ b k z h o.
           let e : (4 * k + z) % 4 ≡ z = omega arith in
           let d : 128 + 4 * k + z ≡ 128 + (4 * k + z) = omega arith in
-          rw d (i .2 b k (4 * k + z) (omega arith) ∙ rw e refl),
-      i .3,
-      i .4,
-      i .1,
-    )
+          rw d (i .2 b k (4 * k + z) (omega arith) ∙ rw e refl);
+      below = i .3;
+      above = i .4;
+    }
 
 pub units-into-spec : {M : Type 1} → statement M
 units-into-spec =

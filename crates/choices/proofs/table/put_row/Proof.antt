@@ -42,23 +42,23 @@ abbrev fourth-of : tie.After-put-three5 → tie.After-put-three4
 fourth-of c = c .before .before .before .before
 
 cast-put-three : tie.Need-cast-put-three
-cast-put-three c = record { fits = omega (arith, start-of (time-of (first-of (c .before .before .before))) .pre .0 .4) }
+cast-put-three c = record { fits = omega (arith, start-of (time-of (first-of (c .before .before .before))) .pre .1 .takes) }
 
 -- the start, from before the last call
 abbrev start-of-fifth : tie.After-slice-known5 → tie.Start
 start-of-fifth c = start-of (time-of (first-of (second-of (third-of (c .before .before)))))
 
 sub-put-three-8 : tie.Need-sub-put-three-8
-sub-put-three-8 c = start-of-fifth c .pre .1 .2
+sub-put-three-8 c = start-of-fifth c .pre .2 .committed
 
 sub-put-three-9 : tie.Need-sub-put-three-9
-sub-put-three-9 c = start-of-fifth c .pre .1 .2
+sub-put-three-9 c = start-of-fifth c .pre .2 .committed
 
 mul-put-three-7 : tie.Need-mul-put-three-7
-mul-put-three-7 c = record { fits = omega (arith, start-of-fifth c .pre .0 .0) }
+mul-put-three-7 c = record { fits = omega (arith, start-of-fifth c .pre .1 .few) }
 
 add-put-three-6 : tie.Need-add-put-three-6
-add-put-three-6 c = record { fits = omega (arith, start-of-fifth c .pre .0 .0) }
+add-put-three-6 c = record { fits = omega (arith, start-of-fifth c .pre .1 .few) }
 
 put-three-requires-5 : tie.Need-put-three-requires-5
 put-three-requires-5 c κs =
@@ -66,12 +66,12 @@ put-three-requires-5 c κs =
     let third = third-of fourth in
     let second = second-of third in
     let first = first-of second in
-    let p = start-of (time-of first) .pre .0 in
+    let p = start-of (time-of first) .pre in
     let e1 = first .put-three .kept .1 .1 .1 .1 .0 in
     let e2 = second .put-three2 .kept .1 .1 .1 .1 .0 in
     let e3 = third .put-three3 .kept .1 .1 .1 .1 .0 in
     let e4 = fourth .put-three4 .kept .1 .1 .1 .1 .0 in
-    (omega (arith, p .1, e1, e2, e3, e4), omega (arith, p .0))
+    (omega (arith, p .0, e1, e2, e3, e4), omega (arith, p .1 .few))
 
 returns : tie.Need-returns
 returns c =

@@ -21,4 +21,5 @@ returns c =
 pub put-three-spec : {M : Type 1} → statement M
 put-three-spec =
     tie.close
-    (tie.spec (λ c. search needs) (λ c. search needs) (λ c. search needs) (λ c. search needs) slice-write-out-2 (λ c. search needs) (λ c. search needs) slice-write-out-3 (λ c. search needs) returns)
+    (tie.spec (λ c. search needs) (λ c. search needs) (λ c. search needs) (λ c. search needs) slice-write-out-2
+    (λ c. search needs) (λ c. search needs) slice-write-out-3 (λ c. search needs) returns)

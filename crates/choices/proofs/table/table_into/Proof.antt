@@ -9,11 +9,11 @@ use Rattle.record.specs.declared.Block.{Block}
 use Rattle.record.proofs.AcceptedRanges.{ranges}
 use Rattle.unpacked.specs.inside.UnpackedBlock.{Shapes}
 use Rattle.choices.specs.inside.InstructionRows.{Playing}
-use Rattle.choices.specs.inside.NoteSteps.{fixed}
+use Rattle.choices.specs.inside.NoteSteps.{fixed, Narrow}
 use Rattle.choices.specs.inside.PlayNotes.{Notes}
 use Rattle.choices.proofs.StartChosen.{leads}
 use Rattle.choices.proofs.NotesDecoded.{notes-committed}
-use Rattle.choices.proofs.RowWritten.{tableIn, table-none, table-all, row-table, row-fits}
+use Rattle.choices.proofs.RowWritten.{tableIn, table-none, table-all, row-table, row-noted}
 use borrow.Author.Needs.{needs}
 use Rattle.choices.proofs.table.table_into.Statement.{statement}
 use Rattle.choices.proofs.table.table_into.Tie as tie
@@ -47,6 +47,17 @@ module _ (c : tie.After-first-notes Inv-loop μ-loop) where
   playing =
       record { accepted = start .pre .0; cap = shapes .most; fit = start .pre .1; has = c .before .rows-of .ensures }
 
+  narrow : Narrow (c .before .before .shape-of .result)
+  narrow =
+      let A = ranges b (start .pre .0) in
+      record {
+        q = omega (arith, shapes .q, A .q .1);
+        w = omega (arith, shapes .w, A .w .1);
+        f = omega (arith, shapes .f, A .f .1);
+        d = omega (arith, shapes .d, A .d .1);
+        c = omega (arith, shapes .c, A .c .1);
+      }
+
 rows-of-requires : tie.Need-rows-of-requires Inv-loop μ-loop
 rows-of-requires c κs =
     let s = c .before .before .before in
@@ -54,7 +65,7 @@ rows-of-requires c κs =
 
 loop-holds : tie.Need-loop-holds Inv-loop μ-loop
 loop-holds c =
-    (omega arith, refl, λ b P H. (c .first-notes .ensures b (lat c) (rows c) P, omega arith, table-none b (lat c) _))
+    (omega arith, refl, λ b P H. (c .first-notes .ensures .notes b (lat c) (rows c) P, omega arith, table-none b (lat c) _))
 
 -- ---- a turn
 abbrev turn-of : tie.After-first-of Inv-loop μ-loop → tie.At-loop Inv-loop μ-loop
@@ -101,7 +112,7 @@ module _ (c : tie.After-decode-until Inv-loop μ-loop) (b : Block) (P : Playing 
   decoded-notes : Notes b (lat (turn first .before)) (turn first .loop .c) (first .first-of .result) (c .decode-until .last .1 .1 .1 .0)
   decoded-notes =
       let v = turn first .loop .inv .2 b P H in
-      c .decode-until .ensures b (lat (turn first .before)) (rows (turn first .before)) (turn first .loop .c) P H
+      c .decode-until .ensures .notes b (lat (turn first .before)) (rows (turn first .before)) (turn first .loop .c) P H
       (omega (arith, reached, v .0 .few, v .1)) (omega (arith, reached)) (v .0)
 
 -- the EX of c has a start
@@ -111,10 +122,13 @@ module _ (c : tie.After-until-started Inv-loop μ-loop) (b : Block)
   abbrev decode : tie.After-decode-until Inv-loop μ-loop
   decode = decoded-of c
 
-  started-notes : Notes b (lat (turn (end-of decode) .before)) (turn (end-of decode) .loop .c) (end-of decode .first-of .result) (c .until-started .last .1 .1 .1 .0)
-      × (fixed (c .until-started .last .1 .1 .1 .0) (turn (end-of decode) .loop .c) ≡ true)
+  abbrev after : List ℕ
+  after = c .until-started .last .1 .1 .1 .0
+
+  started-notes : Notes b (lat (turn (end-of decode) .before)) (turn (end-of decode) .loop .c) (end-of decode .first-of .result) after
+      × (fixed after (turn (end-of decode) .loop .c) ≡ true)
   started-notes =
-      c .until-started .ensures b (lat (turn (end-of decode) .before)) P (omega (arith, reached decode b P H)) (decoded-notes decode b P H)
+      c .until-started .ensures .notes b (lat (turn (end-of decode) .before)) P (omega (arith, reached decode b P H)) (decoded-notes decode b P H)
 
 same-notes : (b : Block) (l : List ℕ) (c m : ℕ) (x x′ : List ℕ) → x′ ≡ x → Notes b l c m x → Notes b l c m x′
 same-notes b l c m x x′ e N = rw e N
@@ -143,12 +157,7 @@ add-first-of c =
     record { fits = omega (arith, c .before .loop-test .taken, shapes f .n, shapes f .w, A .n .1, A .w .1) }
 
 decode-until-requires : tie.Need-decode-until-requires Inv-loop μ-loop
-decode-until-requires c κs =
-    let first = c .before in
-    let f = turn first .before in
-    let H = shapes f in
-    let A = ranges (b f) (start f .pre .0) in
-    (omega (arith, end-is first, small first), omega (arith, H .q, A .q .1), omega (arith, H .w, A .w .1), omega (arith, H .f, A .f .1), omega (arith, H .d, A .d .1))
+decode-until-requires c κs = let first = c .before in (omega (arith, end-is first, small first), narrow (turn first .before))
 
 until-started-requires : tie.Need-until-started-requires Inv-loop μ-loop
 until-started-requires c κs =
@@ -166,8 +175,7 @@ until-started-requires c κs =
 commit-one-requires : tie.Need-commit-one-requires Inv-loop μ-loop
 commit-one-requires c κs =
     let first = end-of (decoded-of (c .before)) in
-    let f = turn first .before in
-    (omega (arith, below first, small first), omega (arith, shapes f .c, ranges (b f) (start f .pre .0) .c .1))
+    (omega (arith, below first, small first), narrow (turn first .before))
 
 put-row-requires : tie.Need-put-row-requires Inv-loop μ-loop
 put-row-requires c κs =
@@ -176,18 +184,10 @@ put-row-requires c κs =
     let t = turn first in
     let f = t .before in
     let P = playing f in
-    let i = t .loop .c in
-    let n : i < b f .n = omega (arith, below first, shapes f .n) in
-    let L = leads (b f) (lat f) (rows f) P (b f .n) (omega arith) in
-    let N = committed-notes d (b f) P (shapes f) in (
-      (
-        omega (arith, n, small first, below first),
-        omega (arith, n, t .loop .inv .1, start f .pre .3),
-        L .first i n,
-        L .second i n,
-        omega (arith, P .has .takes i n, P .fit .most i n, P .cap i),
-      ),
-      row-fits (b f) (lat f) (rows f) P i _ _ N,
+    let n : t .loop .c < b f .n = omega (arith, below first, shapes f .n) in (
+      omega (arith, n, t .loop .inv .1, start f .pre .3),
+      leads (b f) (lat f) (rows f) P (t .loop .c) n,
+      row-noted (b f) (lat f) (rows f) P (t .loop .c) _ _ (committed-notes d (b f) P (shapes f)),
     )
 
 add-c : tie.Need-add-c Inv-loop μ-loop
@@ -225,5 +225,6 @@ returns c =
 pub table-into-spec : {M : Type 1} → statement M
 table-into-spec =
     tie.close
-    (tie.spec Inv-loop μ-loop (λ c κs. search needs) rows-of-requires (λ c κs. search needs) loop-holds add-first-of (λ c κs. search needs)
+    (tie.spec Inv-loop μ-loop (λ c κs. search needs) rows-of-requires (λ c κs. search needs) loop-holds add-first-of
+    (λ c κs. search needs)
     decode-until-requires until-started-requires commit-one-requires put-row-requires add-c (λ c. search needs) loop-again same-length returns)

@@ -40,5 +40,6 @@ returns-3 c =
 pub play-spec : {M : Type 1} → statement M
 play-spec =
     tie.close
-    (tie.spec (λ c κs. search needs) (λ c. search needs) (λ c. search needs) lent-answer-requires (λ c. search needs) (λ c. search needs) table-into-requires returns returns-2
+    (tie.spec (λ c κs. search needs) (λ c. search needs) (λ c. search needs) lent-answer-requires (λ c. search needs)
+    (λ c. search needs) table-into-requires returns returns-2
     (λ c. search needs) returns-3)
