@@ -1,15 +1,18 @@
-// The proved operations beside plain Rust on right and damaged inputs: the answers and all of the lent memory.
+// The proved operations beside plain Rust on right and damaged inputs: the answers and all of the lent memory. Plain Rust's
+// two ways to play, by choice and by cycle, are compared in the same trials.
 use crate::damage::MEMORY;
 use crate::records::Seed;
 use crate::sides::{Operation, ANALYSE, CHECK, PLAY, PLAY_LENGTH, RECODE, WINDOWS};
 use std::collections::BTreeMap;
 
-// How often each answer was given, and the first trial in which the two sides differ.
+// How often each answer was given, and the first trial in which something differs.
 struct Tally {
     name: &'static str,
     numbers: &'static [u32],
     tried: usize,
     differ: usize,
+    ways: usize, // how often plain Rust played both by choice and by cycle
+    ways_differ: usize,
     answers: BTreeMap<u32, usize>,
     first: Option<String>,
 }
@@ -23,7 +26,7 @@ fn text(answer: u32) -> String {
 
 impl Tally {
     fn new(name: &'static str, numbers: &'static [u32]) -> Tally {
-        Tally { name, numbers, tried: 0, differ: 0, answers: BTreeMap::new(), first: None }
+        Tally { name, numbers, tried: 0, differ: 0, ways: 0, ways_differ: 0, answers: BTreeMap::new(), first: None }
     }
 
     // How often a number was answered, and at how many places.
@@ -40,6 +43,9 @@ impl Tally {
     fn print(&self) {
         let counts: Vec<String> = self.numbers.iter().map(|k| format!("{k} x {}", self.of(*k).0)).collect();
         println!("{}: {} compared, {} differ; answers: {}", self.name, self.tried, self.differ, counts.join(", "));
+        if self.ways > 0 {
+            println!("  plain Rust by choice and by cycle: {} compared, {} differ", self.ways, self.ways_differ);
+        }
         if let Some(first) = &self.first {
             println!("  the first that differs: {first}");
         }
@@ -69,6 +75,15 @@ fn compare<T: Copy + PartialEq + From<u8>>(seed: &mut Seed, records: &[[u8; 512]
                 let at = (0..MEMORY).find(|&j| a[j] != b[j] || (written <= j && a[j] != blank[j]));
                 let memory = at.map_or("memory right".to_string(), |j| format!("memory wrong from {j} on"));
                 tally.first.get_or_insert(format!("record {i}, trial {k}: ours {}, plain Rust {}, {memory}", text(x), text(y)));
+            }
+            if let Some(by_cycle) = op.by_cycle {
+                let mut c = blank;
+                let z = by_cycle(&trial, &mut c[..lent]);
+                tally.ways += 1;
+                if z != y || c != b {
+                    tally.ways_differ += 1;
+                    tally.first.get_or_insert(format!("record {i}, trial {k}: by choice {}, by cycle {}", text(y), text(z)));
+                }
             }
         }
     }
@@ -111,5 +126,5 @@ pub fn compare_all(seed: &mut Seed) -> bool {
     ];
     tallies.iter().for_each(Tally::print);
     let refused = print_refusals(&tallies);
-    tallies.iter().all(|t| t.differ == 0 && t.missing().is_empty()) && refused
+    tallies.iter().all(|t| t.differ == 0 && t.ways_differ == 0 && t.missing().is_empty()) && refused
 }

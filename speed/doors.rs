@@ -2,7 +2,8 @@
 // refusal's number * 65536 + its place; at a refusal nothing is written.
 use crate::plain::{read, write, Refusal};
 use crate::plain_analysis::{analyse, windows};
-use crate::plain_play::{play, play_length};
+use crate::plain_choice::{play, play_length};
+use crate::plain_play;
 
 fn coded(done: Result<(), Refusal>) -> u32 {
     match done {
@@ -45,4 +46,15 @@ pub fn rust_play(s: &[u8], lat: &[u8], out: &mut [u16]) -> u32 {
 #[inline(never)]
 pub fn rust_play_length(s: &[u8], lat: &[u8], out: &mut u16) -> u32 {
     coded(read(s).and_then(|b| play_length(&b, lat)).map(|cycles| *out = cycles))
+}
+
+// The two again, cycle by cycle.
+#[inline(never)]
+pub fn rust_play_by_cycle(s: &[u8], lat: &[u8], out: &mut [u16]) -> u32 {
+    coded(read(s).and_then(|b| plain_play::play(&b, lat, out)))
+}
+
+#[inline(never)]
+pub fn rust_play_length_by_cycle(s: &[u8], lat: &[u8], out: &mut u16) -> u32 {
+    coded(read(s).and_then(|b| plain_play::play_length(&b, lat)).map(|cycles| *out = cycles))
 }

@@ -1,5 +1,5 @@
-// The rules in plain Rust: a record read, tested and written, and the last writers of a block. The analysis is in
-// plain_analysis.rs, the play in plain_play.rs.
+// The rules in plain Rust: a record read, tested and written, a latency list tested, and the last writers of a block. The
+// analysis is in plain_analysis.rs, the play by choice in plain_choice.rs, the play by cycle in plain_play.rs.
 
 // A refusal's number and place.
 pub type Refusal = (u8, usize);
@@ -151,6 +151,20 @@ pub fn write(b: &Block, out: &mut [u8]) -> Result<(), Refusal> {
         return Err((6, 0));
     }
     sealed(s, out);
+    Ok(())
+}
+
+// Tests 7 and 8 of a latency list.
+#[inline(always)]
+pub fn fits(b: &Block, lat: &[u8]) -> Result<(), Refusal> {
+    if lat.len() != b.n as usize {
+        return Err((7, 0));
+    }
+    for (i, (l, e)) in lat.iter().zip(&b.entries).enumerate() {
+        if !(e.lo..=e.hi).contains(l) {
+            return Err((8, i));
+        }
+    }
     Ok(())
 }
 

@@ -1,5 +1,7 @@
-// Each operation twice, as proved and in plain Rust, both in one shape so that they can be compared and timed alike.
+// Each operation as proved and in plain Rust, the play in plain Rust both by choice and by cycle, all in one shape so that
+// they can be compared and timed alike.
 use crate::doors::{rust_analyse, rust_check, rust_play, rust_play_length, rust_recode, rust_windows};
+use crate::doors::{rust_play_by_cycle, rust_play_length_by_cycle};
 use crate::records::Trial;
 
 extern "C" {
@@ -33,13 +35,14 @@ impl Output {
     }
 }
 
-// An operation, and the numbers that it can answer.
+// An operation, and the numbers that it can answer. The play has a second opponent, by cycle.
 pub struct Operation<T> {
     pub name: &'static str,
     pub numbers: &'static [u32],
     pub output: Output,
     pub ours: Side<T>,
     pub rust: Side<T>,
+    pub by_cycle: Option<Side<T>>,
 }
 
 pub const CHECK: Operation<u8> = Operation {
@@ -48,6 +51,7 @@ pub const CHECK: Operation<u8> = Operation {
     output: Output::Nothing,
     ours: |Trial { record: s, .. }, _| unsafe { bench_check(s.as_ptr(), s.len()) },
     rust: |Trial { record: s, .. }, _| rust_check(s),
+    by_cycle: None,
 };
 
 pub const RECODE: Operation<u8> = Operation {
@@ -56,6 +60,7 @@ pub const RECODE: Operation<u8> = Operation {
     output: Output::Record,
     ours: |Trial { record: s, .. }, out| unsafe { bench_recode(s.as_ptr(), s.len(), out.as_mut_ptr(), out.len()) },
     rust: |Trial { record: s, .. }, out| rust_recode(s, out),
+    by_cycle: None,
 };
 
 pub const ANALYSE: Operation<u8> = Operation {
@@ -64,6 +69,7 @@ pub const ANALYSE: Operation<u8> = Operation {
     output: Output::Record,
     ours: |Trial { record: s, .. }, out| unsafe { bench_analyse(s.as_ptr(), s.len(), out.as_mut_ptr(), out.len()) },
     rust: |Trial { record: s, .. }, out| rust_analyse(s, out),
+    by_cycle: None,
 };
 
 pub const WINDOWS: Operation<u16> = Operation {
@@ -72,6 +78,7 @@ pub const WINDOWS: Operation<u16> = Operation {
     output: Output::Table(30),
     ours: |Trial { record: s, .. }, out| unsafe { bench_windows(s.as_ptr(), s.len(), out.as_mut_ptr(), out.len()) },
     rust: |Trial { record: s, .. }, out| rust_windows(s, out),
+    by_cycle: None,
 };
 
 pub const PLAY: Operation<u16> = Operation {
@@ -82,6 +89,7 @@ pub const PLAY: Operation<u16> = Operation {
         bench_play(s.as_ptr(), s.len(), l.as_ptr(), l.len(), out.as_mut_ptr(), out.len())
     },
     rust: |Trial { record: s, list: l }, out| rust_play(s, l, out),
+    by_cycle: Some(|Trial { record: s, list: l }, out| rust_play_by_cycle(s, l, out)),
 };
 
 pub const PLAY_LENGTH: Operation<u16> = Operation {
@@ -92,4 +100,5 @@ pub const PLAY_LENGTH: Operation<u16> = Operation {
         bench_play_length(s.as_ptr(), s.len(), l.as_ptr(), l.len(), &mut out[0])
     },
     rust: |Trial { record: s, list: l }, out| rust_play_length(s, l, &mut out[0]),
+    by_cycle: Some(|Trial { record: s, list: l }, out| rust_play_length_by_cycle(s, l, &mut out[0])),
 };

@@ -1,16 +1,17 @@
-// The bench's operations, proved, beside plain Rust of the same rules: the results are compared, then both are timed.
+// The bench's operations, proved, beside plain Rust of the same rules: the results are compared, then all are timed.
 mod compare;
 mod damage;
 mod doors;
 mod plain;
 mod plain_analysis;
+mod plain_choice;
 mod plain_play;
 mod records;
 mod sides;
 
 use compare::compare_all;
 use plain::Block;
-use plain_play::bare;
+use plain_choice::bare;
 use records::{Seed, Trial};
 use sides::{Operation, Side, ANALYSE, CHECK, PLAY, PLAY_LENGTH, RECODE, WINDOWS};
 use std::hint::black_box;
@@ -29,36 +30,41 @@ fn time(trials: usize, mut f: impl FnMut(usize) -> u64) -> f64 {
     t.elapsed().as_nanos() as f64 / (20 * trials) as f64
 }
 
-// The least of 25 samples of both, in turn.
-fn least_of(trials: usize, mut ours: impl FnMut(usize) -> u64, mut rust: impl FnMut(usize) -> u64) -> (f64, f64) {
-    let (mut a, mut b) = (f64::MAX, f64::MAX);
-    for _ in 0..25 {
-        a = a.min(time(trials, &mut ours));
-        b = b.min(time(trials, &mut rust));
-    }
-    (a, b)
-}
-
-// Both sides of an operation, on inputs that are right.
-fn least<T: Copy + Default>(trials: &[Trial], op: &Operation<T>) -> (f64, f64) {
-    let run = |side: Side<T>| {
-        let mut out = vec![T::default(); op.output.length(60)];
+// The least of 25 samples of each side of an operation, in turn, on inputs that are right: ours, plain Rust, and plain Rust
+// by cycle where there is that.
+fn least<T: Copy + Default>(trials: &[Trial], op: &Operation<T>) -> Vec<f64> {
+    let sides: Vec<Side<T>> = [op.ours, op.rust].into_iter().chain(op.by_cycle).collect();
+    let mut out = vec![T::default(); op.output.length(60)];
+    for side in &sides {
         assert!(trials.iter().all(|t| side(t, &mut out) == 0), "{}: a timed record is refused", op.name);
-        move |i: usize| side(black_box(&trials[i]), black_box(&mut out[..])) as u64
-    };
-    least_of(trials.len(), run(op.ours), run(op.rust))
+    }
+    let mut least = vec![f64::MAX; sides.len()];
+    for _ in 0..25 {
+        for (l, side) in least.iter_mut().zip(&sides) {
+            *l = l.min(time(trials.len(), |i| side(black_box(&trials[i]), black_box(&mut out[..])) as u64));
+        }
+    }
+    least
 }
 
-fn ratio(a: f64, b: f64) -> String {
-    format!("ours {a:.0} ns, plain Rust {b:.0} ns, ratio {:.2}", a / b)
+fn ratios(times: &[f64]) -> String {
+    match *times {
+        [a, b] => format!("ours {a:.0} ns, plain Rust {b:.0} ns, ratio {:.2}", a / b),
+        [a, b, c] => {
+            let sides = format!("ours {a:.0} ns, plain Rust by choice {b:.0} ns, by cycle {c:.0} ns");
+            format!("{sides}, ratio to by choice {:.2}, to by cycle {:.2}", a / b, a / c)
+        }
+        _ => unreachable!(),
+    }
 }
 
 // Prints the times of an operation, also less those of the check of the same records. Ours less the check.
 fn print_less<T: Copy + Default>(what: &str, trials: &[Trial], op: &Operation<T>) -> f64 {
-    let (a, b) = least(trials, op);
-    let (x, y) = least(trials, &CHECK);
-    println!("{}, {what}: {}; less the check {}", op.name, ratio(a, b), ratio(a - x, b - y));
-    a - x
+    let times = least(trials, op);
+    let check = least(trials, &CHECK);
+    let less: Vec<f64> = times.iter().enumerate().map(|(k, t)| t - check[k.min(1)]).collect();
+    println!("{}, {what}: {}; less the check {}", op.name, ratios(&times), ratios(&less));
+    less[0]
 }
 
 fn contended(seed: &mut Seed, n: usize, top: u64) -> Vec<Trial> {
@@ -69,15 +75,15 @@ fn contended(seed: &mut Seed, n: usize, top: u64) -> Vec<Trial> {
     (0..500).map(|_| trial()).collect()
 }
 
-// Times plays, and beside them the bare starts in plain Rust.
+// Times plays, and beside them the bare starts in plain Rust by choice.
 fn plays(seed: &mut Seed, n: usize, top: u64) {
     let trials = contended(seed, n, top);
     let blocks: Vec<Block> = trials.iter().map(|t| plain::read(&t.record).unwrap()).collect();
-    let long: Vec<Vec<u32>> = trials.iter().map(|t| t.list.iter().map(|x| *x as u32).collect()).collect();
-    let cycles: u64 = blocks.iter().zip(&long).map(|(b, l)| bare(b, l) as u64 + 1).sum();
+    let bare = |i: usize| bare(black_box(&blocks[i]), black_box(&trials[i].list)) as u64;
+    let cycles: u64 = (0..500).map(bare).sum();
     let ours = print_less(&format!("n {n}, latencies to {top}, {} cycles", cycles / 500), &trials, &PLAY);
-    let (z, _) = least_of(500, |i| bare(black_box(&blocks[i]), black_box(&long[i])) as u64, |_| 0);
-    println!("  bare starts in plain Rust {z:.0} ns; ours less the check to them {:.2}", ours / z);
+    let z = (0..25).map(|_| time(500, bare)).fold(f64::MAX, f64::min);
+    println!("  bare starts in plain Rust by choice {z:.0} ns; ours less the check to them {:.2}", ours / z);
 }
 
 fn main() {
@@ -88,8 +94,7 @@ fn main() {
     let records: Vec<[u8; 512]> = (0..500).map(|_| seed.record()).collect();
     let trials: Vec<Trial> = records.iter().map(|r| seed.right(r)).collect();
     for op in [CHECK, RECODE] {
-        let (a, b) = least(&trials, &op);
-        println!("{}: {}", op.name, ratio(a, b));
+        println!("{}: {}", op.name, ratios(&least(&trials, &op)));
     }
     for (n, top) in [(8, 6), (8, 255), (20, 6), (20, 255), (60, 6), (60, 255)] {
         print_less(&format!("n {n}, latencies to {top}"), &contended(&mut seed, n, top), &ANALYSE);
@@ -97,8 +102,10 @@ fn main() {
     for top in [6, 255] {
         print_less(&format!("n 60, latencies to {top}"), &contended(&mut seed, 60, top), &WINDOWS);
     }
-    for (n, top) in [(8, 6), (20, 60), (60, 6), (60, 60), (60, 255)] {
-        plays(&mut seed, n, top);
+    for n in [8, 20, 60] {
+        for top in [6, 60, 255] {
+            plays(&mut seed, n, top);
+        }
     }
     print_less("n 60, latencies to 60", &contended(&mut seed, 60, 60), &PLAY_LENGTH);
 }
