@@ -12,7 +12,7 @@ mod sides;
 use compare::compare_all;
 use plain::Block;
 use plain_choice::bare;
-use records::{Seed, Trial};
+use records::{overtaken, Seed, Trial};
 use sides::{Operation, Side, ANALYSE, CHECK, PLAY, PLAY_LENGTH, RECODE, WINDOWS};
 use std::hint::black_box;
 use std::time::Instant;
@@ -76,12 +76,11 @@ fn contended(seed: &mut Seed, n: usize, top: u64) -> Vec<Trial> {
 }
 
 // Times plays, and beside them the bare starts in plain Rust by choice.
-fn plays(seed: &mut Seed, n: usize, top: u64) {
-    let trials = contended(seed, n, top);
+fn plays(what: &str, trials: &[Trial]) {
     let blocks: Vec<Block> = trials.iter().map(|t| plain::read(&t.record).unwrap()).collect();
     let bare = |i: usize| bare(black_box(&blocks[i]), black_box(&trials[i].list)) as u64;
     let cycles: u64 = (0..500).map(bare).sum();
-    let ours = print_less(&format!("n {n}, latencies to {top}, {} cycles", cycles / 500), &trials, &PLAY);
+    let ours = print_less(&format!("{what}, {} cycles", cycles / 500), trials, &PLAY);
     let z = (0..25).map(|_| time(500, bare)).fold(f64::MAX, f64::min);
     println!("  bare starts in plain Rust by choice {z:.0} ns; ours less the check to them {:.2}", ours / z);
 }
@@ -104,8 +103,10 @@ fn main() {
     }
     for n in [8, 20, 60] {
         for top in [6, 60, 255] {
-            plays(&mut seed, n, top);
+            plays(&format!("n {n}, latencies to {top}"), &contended(&mut seed, n, top));
         }
     }
+    let overtaken: Vec<Trial> = (0..500).map(|_| seed.right(&overtaken())).collect();
+    plays("n 60, overtaken", &overtaken);
     print_less("n 60, latencies to 60", &contended(&mut seed, 60, 60), &PLAY_LENGTH);
 }

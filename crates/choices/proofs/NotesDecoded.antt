@@ -12,7 +12,7 @@ use Rattle.lists.specs.Lists.{pick}
 use Rattle.lists.proofs.Bools.{by-test}
 use Rattle.record.specs.declared.Block.{Block}
 use Rattle.record.proofs.AcceptedRanges.{Ranges, ranges}
-use Rattle.model.specs.Nodes.{IF, ID, EX, WB, CM, node}
+use Rattle.model.specs.Nodes.{IF, ID, EX, WB, CM, node, chosen}
 use Rattle.model.specs.Cycles.{start}
 use Rattle.unpacked.specs.inside.ReadyByStage.{finishBack, startBack, readyIF, readyID, readyCM}
 use Rattle.unpacked.specs.inside.UnpackedBlock.{Shapes}
@@ -21,7 +21,7 @@ use Rattle.choices.specs.inside.InstructionRows.{Playing}
 use Rattle.choices.specs.inside.NoteSteps.{fixed, fetchOf, decodedOf, committedOf, decodedInto, committedInto}
 use Rattle.choices.specs.inside.PlayNotes.{Line, starts, ends, Notes}
 use Rattle.choices.proofs.NoteLines.{line-back, line-same, line-more}
-use Rattle.choices.proofs.PlayTimes.{fetch-start, decode-start, commit-start, ends-one, ends-most}
+use Rattle.choices.proofs.PlayTimes.{fetch-start, decode-start, commit-start, ends-one, ends-fetch, ends-most}
 use Rattle.choices.proofs.FourStores.{fourStores, four-long, four-other, four-first, four-second, four-third, four-fourth}
 use Rattle.choices.proofs.StartsKept.{fixed-same, starts-more, starts-same}
 
@@ -46,7 +46,7 @@ module _ (b : Block) (l rows : List ℕ) (P : Playing b l rows) (h : Shape) (H :
   one-later g i a = by-test (leb 1 i) (λ t. rw t (omega arith)) (λ t. rw t (omega arith))
 
   module _ (c m : ℕ) (x : List ℕ) (N : Notes b l c m x) where
-    module _ (some : m < b .n) (near : m < c + b .w) where
+    module _ (y : ℕ) (takes : y ≡ chosen b l (node IF m)) (some : m < b .n) (near : m < c + b .w) where
       fetch-is : fetchOf h m x ≡ start s (node IF m)
       unfolding fetchOf readyIF startBack
       fetch-is =
@@ -59,11 +59,15 @@ module _ (b : Block) (l rows : List ℕ) (P : Playing b l rows) (h : Shape) (H :
           )
           (sym (fetch-start b l rows P m some))
 
-      decoded-is : decodedOf h m (fetchOf h m x + 1) x ≡ ends b l (node ID m)
+      fetched-is : fetchOf h m x + y ≡ ends b l (node IF m)
+      fetched-is = omega (arith, fetch-is, takes, ends-fetch b l rows P m)
+
+      decoded-is : decodedOf h m (fetchOf h m x + y) x ≡ ends b l (node ID m)
       unfolding decodedOf readyID
       decoded-is =
           rw (
-            fetch-is,
+            fetched-is,
+            ends-one b l rows P IF m (omega arith) (λ e. omega arith),
             finish-back x 420 c CM m (b .w) (452 + m - h .w) (N .lines .committed) (omega arith) (λ e. omega arith)
                 (omega (arith, A .w .1)) (λ k. omega arith) (omega (arith, H .w)),
             finish-back x 328 m ID m (b .d) (360 + m - h .d) (N .lines .decoded) (omega arith) (λ e. omega arith)
@@ -73,26 +77,26 @@ module _ (b : Block) (l rows : List ℕ) (P : Playing b l rows) (h : Shape) (H :
           (one-later ID m (max (start s (node IF m) + 1) (max (finishBack s CM (b .w) m) (finishBack s ID (b .d) m)))
           ∙ sym (ends-one b l rows P ID m (omega arith) (λ e. omega arith) ∙ ap (λ (y : ℕ). y + 1) (decode-start b l rows P m some)))
 
-      -- IF AND ID OF THE NEXT INSTRUCTION
-      pub notes-decoded : Notes b l c (m + 1) (decodedInto h 1 m x)
+      -- IF AND ID OF THE NEXT INSTRUCTION, whose fetch takes y
+      pub notes-decoded : Notes b l c (m + 1) (decodedInto h y m x)
       unfolding decodedInto
       notes-decoded =
           let F : ℕ = fetchOf h m x in
-          let D : ℕ = decodedOf h m (F + 1) x in
+          let D : ℕ = decodedOf h m (F + y) x in
           let f : F % 65536 ≡ start s (node IF m)
           = omega (arith, fetch-is, ends-one b l rows P IF m (omega arith) (λ e. omega arith), ends-most b l rows P IF m (omega arith) some) in
-          let g : (F + 1) % 65536 ≡ ends b l (node IF m)
-          = omega (arith, fetch-is, ends-one b l rows P IF m (omega arith) (λ e. omega arith), ends-most b l rows P IF m (omega arith) some) in
+          let g : (F + y) % 65536 ≡ ends b l (node IF m)
+          = omega (arith, fetched-is, ends-most b l rows P IF m (omega arith) some) in
           let d : D % 65536 ≡ ends b l (node ID m) = omega (arith, decoded-is, ends-most b l rows P ID m (omega arith) some) in
-          let other = four-other x (176 + m) (F % 65536) (268 + m) ((F + 1) % 65536) (360 + m) (D % 65536) (64 + m) (D % 65536) in
-          let first = four-first x (176 + m) (F % 65536) (268 + m) ((F + 1) % 65536) (360 + m) (D % 65536) (64 + m) (D % 65536) in
-          let second = four-second x (176 + m) (F % 65536) (268 + m) ((F + 1) % 65536) (360 + m) (D % 65536) (64 + m) (D % 65536) in
-          let third = four-third x (176 + m) (F % 65536) (268 + m) ((F + 1) % 65536) (360 + m) (D % 65536) (64 + m) (D % 65536) in
-          let fourth = four-fourth x (176 + m) (F % 65536) (268 + m) ((F + 1) % 65536) (360 + m) (D % 65536) (64 + m) (D % 65536) in
+          let other = four-other x (176 + m) (F % 65536) (268 + m) ((F + y) % 65536) (360 + m) (D % 65536) (64 + m) (D % 65536) in
+          let first = four-first x (176 + m) (F % 65536) (268 + m) ((F + y) % 65536) (360 + m) (D % 65536) (64 + m) (D % 65536) in
+          let second = four-second x (176 + m) (F % 65536) (268 + m) ((F + y) % 65536) (360 + m) (D % 65536) (64 + m) (D % 65536) in
+          let third = four-third x (176 + m) (F % 65536) (268 + m) ((F + y) % 65536) (360 + m) (D % 65536) (64 + m) (D % 65536) in
+          let fourth = four-fourth x (176 + m) (F % 65536) (268 + m) ((F + y) % 65536) (360 + m) (D % 65536) (64 + m) (D % 65536) in
           let long = N .long in
           let n = A .n .1 in
           record {
-            long = four-long x (176 + m) (F % 65536) (268 + m) ((F + 1) % 65536) (360 + m) (D % 65536) (64 + m) (D % 65536) ∙ N .long;
+            long = four-long x (176 + m) (F % 65536) (268 + m) ((F + y) % 65536) (360 + m) (D % 65536) (64 + m) (D % 65536) ∙ N .long;
             past = omega (arith, N .past);
             few = omega arith;
             lines =
@@ -119,7 +123,7 @@ module _ (b : Block) (l rows : List ℕ) (P : Playing b l rows) (h : Shape) (H :
                 (fourth (omega arith) ∙ d);
             passed = λ i u.
                 let past = N .past in
-                fixed-same x (fourStores x (176 + m) (F % 65536) (268 + m) ((F + 1) % 65536) (360 + m) (D % 65536) (64 + m) (D % 65536)) i
+                fixed-same x (fourStores x (176 + m) (F % 65536) (268 + m) ((F + y) % 65536) (360 + m) (D % 65536) (64 + m) (D % 65536)) i
                 (other (i + 1) (λ e. omega arith) (λ e. omega arith) (λ e. omega arith) (λ e. omega arith)) ∙ N .passed i u;
           }
 

@@ -51,6 +51,10 @@ module _ (b : Block) (l rows : List ℕ) (P : Playing b l rows) where
   unfolding finish
   ends-one g i k ne = ap (λ (y : ℕ). start s (node g i) + y) (chosen-one b l g i k ne)
 
+  pub ends-fetch : (i : ℕ) → ends b l (node IF i) ≡ start s (node IF i) + chosen b l (node IF i)
+  unfolding finish
+  ends-fetch i = refl
+
   pub ends-EX : (i : ℕ) → ends b l (node EX i) ≡ start s (node EX i) + getD l i 0
   unfolding finish
   ends-EX i = ap (λ (y : ℕ). start s (node EX i) + y) (chosen-EX b l i)

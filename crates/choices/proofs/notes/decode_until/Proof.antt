@@ -1,10 +1,12 @@
 -- `choices::notes::decode_until` meets its contract: the instructions passed are noted. Assumes nothing.
 use Prim.Native.Nat.{ℕ, _+_, _≤_, _-_, min}
-use mathlib.Core.Path.{_≡_}
+use mathlib.Core.Path.{_≡_, sym}
 use mathlib.Core.List.{List}
 use native.Mathlib.Omega.{arith}
 use Rattle.record.specs.declared.Block.{Block}
+use Rattle.model.specs.Nodes.{IF}
 use Rattle.unpacked.specs.inside.UnpackedBlock.{Shapes}
+use Rattle.unpacked.proofs.ReadyTimes.{chosen-one}
 use Rattle.choices.specs.inside.InstructionRows.{Playing}
 use Rattle.choices.specs.inside.PlayNotes.{Notes}
 use Rattle.choices.proofs.NotesDecoded.{notes-decoded}
@@ -33,7 +35,9 @@ loop-again c =
       search needs,
       λ k. search needs,
       λ b l rows d P H e N.
-          rw (c .decode-one .ensures) (notes-decoded b l rows P (a .h) H d (t .i) (t .x) (t .inv .2 b l rows d P H e N) (omega arith) (omega arith)),
+          let one = sym (chosen-one b l IF (t .i) (omega arith) (λ q. omega arith)) in
+          rw (c .decode-one .ensures)
+          (notes-decoded b l rows P (a .h) H d (t .i) (t .x) (t .inv .2 b l rows d P H e N) 1 one (omega arith) (omega arith)),
     )
 
 returns : tie.Need-returns Inv-loop μ-loop
