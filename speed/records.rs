@@ -10,21 +10,6 @@ pub struct Trial {
 
 pub struct Seed(pub u64);
 
-// Bad for the play by choice: twice one instruction waits long for the one before it, and all others overtake it, so that
-// each start looks at every instruction that is decoded.
-pub fn overtaken() -> [u8; 512] {
-    let mut b = NO_BLOCK;
-    (b.n, b.q, b.w, b.f, b.d, b.c, b.origin) = (60, 16, 32, 4, 4, 4, 1);
-    for (i, e) in b.entries.iter_mut().enumerate() {
-        let l = if i % 32 == 0 { 255 } else { 1 };
-        let (writes, reads1) = (if i % 32 == 0 { 1 } else { 255 }, if i % 32 == 1 { 1 } else { 255 });
-        *e = Entry { kind: (i % 4) as u8, lo: l, hi: l, writes, reads1, reads2: 255 };
-    }
-    let mut out = [0u8; 512];
-    write(&b, &mut out).unwrap();
-    out
-}
-
 impl Seed {
     pub fn below(&mut self, m: u64) -> u64 {
         self.0 ^= self.0 << 13;
@@ -104,4 +89,19 @@ impl Seed {
     pub fn right(&mut self, r: &[u8; 512]) -> Trial {
         Trial { record: r.to_vec(), list: self.latencies(r) }
     }
+}
+
+// Bad for the play by choice: twice one instruction waits long for the one before it, and all others overtake it, so that
+// each start looks at every instruction that is decoded.
+pub fn overtaken() -> [u8; 512] {
+    let mut b = NO_BLOCK;
+    (b.n, b.q, b.w, b.f, b.d, b.c, b.origin) = (60, 16, 32, 4, 4, 4, 1);
+    for (i, e) in b.entries.iter_mut().enumerate() {
+        let l = if i % 32 == 0 { 255 } else { 1 };
+        let (writes, reads1) = (if i % 32 == 0 { 1 } else { 255 }, if i % 32 == 1 { 1 } else { 255 });
+        *e = Entry { kind: (i % 4) as u8, lo: l, hi: l, writes, reads1, reads2: 255 };
+    }
+    let mut out = [0u8; 512];
+    write(&b, &mut out).unwrap();
+    out
 }

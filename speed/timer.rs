@@ -79,9 +79,9 @@ fn contended(seed: &mut Seed, n: usize, top: u64) -> Vec<Trial> {
 fn plays(what: &str, trials: &[Trial]) {
     let blocks: Vec<Block> = trials.iter().map(|t| plain::read(&t.record).unwrap()).collect();
     let bare = |i: usize| bare(black_box(&blocks[i]), black_box(&trials[i].list)) as u64;
-    let cycles: u64 = (0..500).map(bare).sum();
-    let ours = print_less(&format!("{what}, {} cycles", cycles / 500), trials, &PLAY);
-    let z = (0..25).map(|_| time(500, bare)).fold(f64::MAX, f64::min);
+    let cycles: u64 = (0..trials.len()).map(bare).sum();
+    let ours = print_less(&format!("{what}, {} cycles", cycles / trials.len() as u64), trials, &PLAY);
+    let z = (0..25).map(|_| time(trials.len(), bare)).fold(f64::MAX, f64::min);
     println!("  bare starts in plain Rust by choice {z:.0} ns; ours less the check to them {:.2}", ours / z);
 }
 

@@ -1,4 +1,4 @@
-pub mod NoteLines
+pub mod NoteTimes
 pub mod PlayTimes
 pub mod StartsKept
 pub mod FourStores

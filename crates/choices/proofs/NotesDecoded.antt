@@ -19,8 +19,8 @@ use Rattle.unpacked.specs.inside.UnpackedBlock.{Shapes}
 use Rattle.unpacked.specs.declared.Shape.{Shape}
 use Rattle.choices.specs.inside.InstructionRows.{Playing}
 use Rattle.choices.specs.inside.NoteSteps.{fixed, fetchOf, decodedOf, committedOf, decodedInto, committedInto}
-use Rattle.choices.specs.inside.PlayNotes.{Line, starts, ends, Notes}
-use Rattle.choices.proofs.NoteLines.{line-back, line-same, line-more}
+use Rattle.choices.specs.inside.PlayNotes.{Times, starts, ends, Notes}
+use Rattle.choices.proofs.NoteTimes.{times-back, times-same, times-more}
 use Rattle.choices.proofs.PlayTimes.{fetch-start, decode-start, commit-start, ends-one, ends-fetch, ends-most}
 use Rattle.choices.proofs.FourStores.{fourStores, four-long, four-other, four-first, four-second, four-third, four-fourth}
 use Rattle.choices.proofs.StartsKept.{fixed-same, starts-more, starts-same}
@@ -32,12 +32,12 @@ module _ (b : Block) (l rows : List ℕ) (P : Playing b l rows) (h : Shape) (H :
   abbrev s : List ℕ
   s = starts b l
 
-  -- a line of finishes, so many places back
-  finish-back : (x : List ℕ) (o m g i k p : ℕ) → Line x o m (λ j. ends b l (node g j)) → g < 5 → (g ≡ EX → ⊥) → k ≤ 32 → (k ≤ i → i - k < m)
+  -- finishes, so many places back
+  finish-back : (x : List ℕ) (o m g i k p : ℕ) → Times x o m (λ j. ends b l (node g j)) → g < 5 → (g ≡ EX → ⊥) → k ≤ 32 → (k ≤ i → i - k < m)
       → p ≡ o + 32 + i - k → getD x p 0 ≡ finishBack s g k i
   unfolding finishBack
   finish-back x o m g i k p L five ne small some e =
-      line-back x o m (λ j. ends b l (node g j)) L i k p small some e
+      times-back x o m (λ j. ends b l (node g j)) L i k p small some e
       ∙ ap (λ (y : ℕ). pick (leb k i) y 0) (ends-one b l rows P g (i - k) five ne)
 
   -- where a node takes one cycle, its finish by the finish of the one before it is its start by the start of that, and one
@@ -51,11 +51,11 @@ module _ (b : Block) (l rows : List ℕ) (P : Playing b l rows) (h : Shape) (H :
       unfolding fetchOf readyIF startBack
       fetch-is =
           rw (
-            finish-back x 328 m ID m (b .q) (360 + m - h .q) (N .lines .decoded) (omega arith) (λ e. omega arith)
+            finish-back x 328 m ID m (b .q) (360 + m - h .q) (N .off-EX .decoded) (omega arith) (λ e. omega arith)
                 (omega (arith, A .q .1)) (λ k. omega (arith, A .q .0)) (omega (arith, H .q)),
-            finish-back x 236 m IF m (b .f) (268 + m - h .f) (N .lines .fetched) (omega arith) (λ e. omega arith)
+            finish-back x 236 m IF m (b .f) (268 + m - h .f) (N .off-EX .fetched) (omega arith) (λ e. omega arith)
                 (omega (arith, A .f .1)) (λ k. omega (arith, A .f .0)) (omega (arith, H .f)),
-            line-back x 144 m (λ i. start s (node IF i)) (N .lines .fetch) m 1 (176 + m - 1) (omega arith) (λ k. omega arith) (omega arith),
+            times-back x 144 m (λ i. start s (node IF i)) (N .off-EX .fetch) m 1 (176 + m - 1) (omega arith) (λ k. omega arith) (omega arith),
           )
           (sym (fetch-start b l rows P m some))
 
@@ -68,11 +68,11 @@ module _ (b : Block) (l rows : List ℕ) (P : Playing b l rows) (h : Shape) (H :
           rw (
             fetched-is,
             ends-one b l rows P IF m (omega arith) (λ e. omega arith),
-            finish-back x 420 c CM m (b .w) (452 + m - h .w) (N .lines .committed) (omega arith) (λ e. omega arith)
+            finish-back x 420 c CM m (b .w) (452 + m - h .w) (N .off-EX .committed) (omega arith) (λ e. omega arith)
                 (omega (arith, A .w .1)) (λ k. omega arith) (omega (arith, H .w)),
-            finish-back x 328 m ID m (b .d) (360 + m - h .d) (N .lines .decoded) (omega arith) (λ e. omega arith)
+            finish-back x 328 m ID m (b .d) (360 + m - h .d) (N .off-EX .decoded) (omega arith) (λ e. omega arith)
                 (omega (arith, A .d .1)) (λ k. omega (arith, A .d .0)) (omega (arith, H .d)),
-            finish-back x 328 m ID m 1 (360 + m - 1) (N .lines .decoded) (omega arith) (λ e. omega arith) (omega arith) (λ k. omega arith) (omega arith),
+            finish-back x 328 m ID m 1 (360 + m - 1) (N .off-EX .decoded) (omega arith) (λ e. omega arith) (omega arith) (λ k. omega arith) (omega arith),
           )
           (one-later ID m (max (start s (node IF m) + 1) (max (finishBack s CM (b .w) m) (finishBack s ID (b .d) m)))
           ∙ sym (ends-one b l rows P ID m (omega arith) (λ e. omega arith) ∙ ap (λ (y : ℕ). y + 1) (decode-start b l rows P m some)))
@@ -99,22 +99,22 @@ module _ (b : Block) (l rows : List ℕ) (P : Playing b l rows) (h : Shape) (H :
             long = four-long x (176 + m) (F % 65536) (268 + m) ((F + y) % 65536) (360 + m) (D % 65536) (64 + m) (D % 65536) ∙ N .long;
             past = omega (arith, N .past);
             few = omega arith;
-            lines =
+            off-EX =
                 record {
                   fetch =
-                      line-more x 144 m _ (N .lines .fetch) _
+                      times-more x 144 m _ (N .off-EX .fetch) _
                       (λ p u v. other p (λ e. omega arith) (λ e. omega arith) (λ e. omega arith) (λ e. omega arith))
                       (first (omega arith) (λ e. omega arith) (λ e. omega arith) (λ e. omega arith) ∙ f);
                   fetched =
-                      line-more x 236 m _ (N .lines .fetched) _
+                      times-more x 236 m _ (N .off-EX .fetched) _
                       (λ p u v. other p (λ e. omega arith) (λ e. omega arith) (λ e. omega arith) (λ e. omega arith))
                       (second (omega arith) (λ e. omega arith) (λ e. omega arith) ∙ g);
                   decoded =
-                      line-more x 328 m _ (N .lines .decoded) _
+                      times-more x 328 m _ (N .off-EX .decoded) _
                       (λ p u v. other p (λ e. omega arith) (λ e. omega arith) (λ e. omega arith) (λ e. omega arith))
                       (third (omega arith) (λ e. omega arith) ∙ d);
                   committed =
-                      line-same x 420 c _ (N .lines .committed) _
+                      times-same x 420 c _ (N .off-EX .committed) _
                       (λ p u v. other p (λ e. omega arith) (λ e. omega arith) (λ e. omega arith) (λ e. omega arith));
                 };
             fixes =
@@ -138,9 +138,9 @@ module _ (b : Block) (l rows : List ℕ) (P : Playing b l rows) (h : Shape) (H :
           rw (
             N .fixes .written c few has .0,
             ends-one b l rows P WB c (omega arith) (λ e. omega arith),
-            finish-back x 420 c CM c (b .c) (452 + c - h .c) (N .lines .committed) (omega arith) (λ e. omega arith)
+            finish-back x 420 c CM c (b .c) (452 + c - h .c) (N .off-EX .committed) (omega arith) (λ e. omega arith)
                 (omega (arith, A .c .1)) (λ k. omega (arith, A .c .0)) (omega (arith, H .c)),
-            finish-back x 420 c CM c 1 (452 + c - 1) (N .lines .committed) (omega arith) (λ e. omega arith) (omega arith) (λ k. omega arith) (omega arith),
+            finish-back x 420 c CM c 1 (452 + c - 1) (N .off-EX .committed) (omega arith) (λ e. omega arith) (omega arith) (λ k. omega arith) (omega arith),
           )
           (one-later CM c (max (start s (node WB c) + 1) (finishBack s CM (b .c) c))
           ∙ sym (ends-one b l rows P CM c (omega arith) (λ e. omega arith) ∙ ap (λ (y : ℕ). y + 1) (commit-start b l rows P c few)))
@@ -159,13 +159,13 @@ module _ (b : Block) (l rows : List ℕ) (P : Playing b l rows) (h : Shape) (H :
             long = length-set x (452 + c) (C % 65536) ∙ N .long;
             past = omega arith;
             few = N .few;
-            lines =
+            off-EX =
                 record {
-                  fetch = line-same x 144 m _ (N .lines .fetch) _ (λ p u w. other p (λ e. omega arith));
-                  fetched = line-same x 236 m _ (N .lines .fetched) _ (λ p u w. other p (λ e. omega arith));
-                  decoded = line-same x 328 m _ (N .lines .decoded) _ (λ p u w. other p (λ e. omega arith));
+                  fetch = times-same x 144 m _ (N .off-EX .fetch) _ (λ p u w. other p (λ e. omega arith));
+                  fetched = times-same x 236 m _ (N .off-EX .fetched) _ (λ p u w. other p (λ e. omega arith));
+                  decoded = times-same x 328 m _ (N .off-EX .decoded) _ (λ p u w. other p (λ e. omega arith));
                   committed =
-                      line-more x 420 c _ (N .lines .committed) _ (λ p u w. other p (λ e. omega arith))
+                      times-more x 420 c _ (N .off-EX .committed) _ (λ p u w. other p (λ e. omega arith))
                       (getD-set-same x (452 + c) (C % 65536) 0 (omega arith) ∙ v);
                 };
             fixes = starts-same b l x _ n m (N .fixes) (N .few) (λ p u. other p (λ e. omega arith));

@@ -16,11 +16,11 @@ use Rattle.schedules.specs.inside.Executions.{work}
 use Rattle.schedules.proofs.Choosing.{front-none, held-none}
 use Rattle.choices.specs.inside.InstructionRows.{Playing}
 use Rattle.choices.specs.inside.NoteSteps.{never, fixed}
-use Rattle.choices.specs.inside.PlayNotes.{Line, Slots, Notes}
-use Rattle.choices.proofs.SlotSums.{over, above-over}
+use Rattle.choices.specs.inside.PlayNotes.{Times, Slots, Notes}
+use Rattle.choices.proofs.SlotSums.{over, units-range, above-over}
 
 -- the number of unit z of a kind with m units before the play
-abbrev pub slot : ℕ → ℕ → ℕ
+abbrev slot : ℕ → ℕ → ℕ
 slot m z = pick (ltb z m) 0 never
 
 -- of four such numbers as many are above a time as there are units too few, and they rise
@@ -42,10 +42,6 @@ slot-rises m z =
 slot-most : (m z : ℕ) → slot m z ≤ never
 slot-most m z = by-test (ltb z m) (λ e. rw e (omega arith)) (λ e. rw e (omega arith))
 
-units-range : (b : Block) (k : ℕ) → (1 ≤ units b k) × (units b k ≤ 4)
-unfolding units
-units-range b k = (omega arith, omega arith)
-
 module _ (b : Block) (l rows : List ℕ) (P : Playing b l rows) (x : List ℕ) (long : length x ≡ 512) (none : getD x 0 0 ≡ 0)
     (unwritten : (i : ℕ) → i < 60 → getD x (i + 1) 0 ≡ never)
     (units-free : (k z : ℕ) → k < 4 → z < 4 → getD x (128 + 4 * k + z) 0 ≡ slot (units b k) z)
@@ -56,8 +52,8 @@ module _ (b : Block) (l rows : List ℕ) (P : Playing b l rows) (x : List ℕ) (
   not-fixed : (i : ℕ) → i < b .n → fixed x i ≡ false
   not-fixed i h = ap not (eq-eqb (getD x (i + 1) 0) never (unwritten i (omega (arith, few))))
 
-  first-line : (o : ℕ) (f : ℕ → ℕ) → 144 ≤ o → Line x o 0 f
-  first-line o f h = record { pad = λ z g. zeros (o + z) (omega arith); each = λ i g. absurd (omega arith) }
+  first-times : (o : ℕ) (f : ℕ → ℕ) → 144 ≤ o → Times x o 0 f
+  first-times o f h = record { pad = λ z g. zeros (o + z) (omega arith); each = λ i g. absurd (omega arith) }
 
   first-slots : (k : ℕ) → k < 4 → Slots b l k x
   first-slots k h =
@@ -85,12 +81,12 @@ module _ (b : Block) (l rows : List ℕ) (P : Playing b l rows) (x : List ℕ) (
         long = long;
         past = omega arith;
         few = omega arith;
-        lines =
+        off-EX =
             record {
-              fetch = first-line 144 _ (omega arith);
-              fetched = first-line 236 _ (omega arith);
-              decoded = first-line 328 _ (omega arith);
-              committed = first-line 420 _ (omega arith);
+              fetch = first-times 144 _ (omega arith);
+              fetched = first-times 236 _ (omega arith);
+              decoded = first-times 328 _ (omega arith);
+              committed = first-times 420 _ (omega arith);
             };
         fixes =
             record {

@@ -23,7 +23,7 @@ use Rattle.schedules.proofs.Choosing.{front-more, held-more}
 use Rattle.choices.specs.inside.InstructionRows.{Playing}
 use Rattle.choices.specs.inside.NoteSteps.{never, fixed, heldInto, startedInto}
 use Rattle.choices.specs.inside.PlayNotes.{above, ends, Slots, Starts, Notes}
-use Rattle.choices.proofs.NoteLines.{line-same}
+use Rattle.choices.proofs.NoteTimes.{times-same}
 use Rattle.choices.proofs.PlayTimes.{ends-most, ends-EX, write-end}
 use Rattle.choices.proofs.UnitHeld.{held-long, held-other, held-first, held-second, held-third, held-fourth}
 use Rattle.choices.proofs.StartsKept.{fixed-same, above-same}
@@ -87,7 +87,7 @@ module _ (b : Block) (l rows : List ℕ) (P : Playing b l rows) (c m : ℕ) (x :
       ∙ getD-set-same x (64 + i) never 0 (omega (arith, small, N .long)))
 
   -- ---- what is fixed
-  pub now-fixed : fixed x₂ i ≡ true
+  now-fixed : fixed x₂ i ≡ true
   now-fixed = ap not (ne-eqb (getD x₂ (i + 1) 0) never (λ q. omega (arith, written-at, ends-most b l rows P WB i (omega arith) few)))
 
   fixed-else : (j : ℕ) → j < b .n → (j ≡ i → ⊥) → fixed x₂ j ≡ fixed x j
@@ -229,12 +229,12 @@ module _ (b : Block) (l rows : List ℕ) (P : Playing b l rows) (c m : ℕ) (x :
         long = held-long x₁ k e long₁ four;
         past = N .past;
         few = N .few;
-        lines =
+        off-EX =
             record {
-              fetch = line-same x 144 m _ (N .lines .fetch) x₂ (λ p g h. above-144 p (omega arith));
-              fetched = line-same x 236 m _ (N .lines .fetched) x₂ (λ p g h. above-144 p (omega arith));
-              decoded = line-same x 328 m _ (N .lines .decoded) x₂ (λ p g h. above-144 p (omega arith));
-              committed = line-same x 420 c _ (N .lines .committed) x₂ (λ p g h. above-144 p (omega arith));
+              fetch = times-same x 144 m _ (N .off-EX .fetch) x₂ (λ p g h. above-144 p (omega arith));
+              fetched = times-same x 236 m _ (N .off-EX .fetched) x₂ (λ p g h. above-144 p (omega arith));
+              decoded = times-same x 328 m _ (N .off-EX .decoded) x₂ (λ p g h. above-144 p (omega arith));
+              committed = times-same x 420 c _ (N .off-EX .committed) x₂ (λ p g h. above-144 p (omega arith));
             };
         fixes = starts-on;
         passed = λ j h. fixed-else j (omega (arith, N .past, N .few)) (λ q. false≢true (sym off ∙ rw q at (N .passed j h))) ∙ N .passed j h;

@@ -23,7 +23,7 @@ module _ (b : Block) (l rows : List ℕ) (P : Playing b l rows) where
   s = starts b l
 
   -- off EX, by stage
-  off-EX : (g i : ℕ) → i < b .n → g < 5 → (g ≡ EX → ⊥) → start s (node g i) ≡ ready b (chosen b l) s (node g i)
+  pub off-EX : (g i : ℕ) → i < b .n → g < 5 → (g ≡ EX → ⊥) → start s (node g i) ≡ ready b (chosen b l) s (node g i)
   off-EX g i h k ne =
       starts-ready b (P .accepted) (P .cap) l (P .fit) (node g i) (omega arith) (rw (stage-node g i k) (ne-eqb g EX ne))
 
@@ -33,7 +33,7 @@ module _ (b : Block) (l rows : List ℕ) (P : Playing b l rows) where
   pub decode-start : (i : ℕ) → i < b .n → start s (node ID i) ≡ readyID (b .w) (b .d) s i
   decode-start i h = off-EX ID i h (omega arith) (λ e. omega arith) ∙ ready-ID b (chosen b l) (chosen-one b l) s i
 
-  pub write-start : (i : ℕ) → i < b .n → start s (node WB i) ≡ start s (node EX i) + getD l i 0
+  write-start : (i : ℕ) → i < b .n → start s (node WB i) ≡ start s (node EX i) + getD l i 0
   unfolding readyWB
   write-start i h =
       off-EX WB i h (omega arith) (λ e. omega arith)
@@ -67,35 +67,27 @@ module _ (b : Block) (l rows : List ℕ) (P : Playing b l rows) where
   write-end i h = omega (arith, ends-one WB i (omega arith) (λ e. omega arith), write-start i h)
 
   -- ---- IDs and CMs start in order
+  start-back : (g i : ℕ) → startBack s g (i + 1) ≡ start s (node g i)
+  unfolding startBack
+  start-back g i = let q : i + 1 - 1 ≡ i = omega arith in rw (le-leb 1 (i + 1) (omega arith), q) refl
+
   decode-next : (i : ℕ) → i + 1 < b .n → start s (node ID i) ≤ start s (node ID (i + 1))
-  unfolding readyID startBack
-  decode-next i h =
-      let e : pick (leb 1 (i + 1)) (start s (node ID (i + 1 - 1))) 0 ≡ start s (node ID i) = back i in
-      omega (arith, decode-start (i + 1) h, e)
-    where
-      back : (i : ℕ) → pick (leb 1 (i + 1)) (start s (node ID (i + 1 - 1))) 0 ≡ start s (node ID i)
-      back i = let q : i + 1 - 1 ≡ i = omega arith in rw (le-leb 1 (i + 1) (omega arith), q) refl
+  unfolding readyID
+  decode-next i h = omega (arith, decode-start (i + 1) h, start-back ID i)
 
   commit-next : (i : ℕ) → i + 1 < b .n → start s (node CM i) ≤ start s (node CM (i + 1))
-  unfolding readyCM startBack
-  commit-next i h =
-      let e : pick (leb 1 (i + 1)) (start s (node CM (i + 1 - 1))) 0 ≡ start s (node CM i) = back i in
-      omega (arith, commit-start (i + 1) h, e)
-    where
-      back : (i : ℕ) → pick (leb 1 (i + 1)) (start s (node CM (i + 1 - 1))) 0 ≡ start s (node CM i)
-      back i = let q : i + 1 - 1 ≡ i = omega arith in rw (le-leb 1 (i + 1) (omega arith), q) refl
+  unfolding readyCM
+  commit-next i h = omega (arith, commit-start (i + 1) h, start-back CM i)
+
+  in-order : (g : ℕ) → ((i : ℕ) → i + 1 < b .n → start s (node g i) ≤ start s (node g (i + 1)))
+      → (i k : ℕ) → i + k < b .n → start s (node g i) ≤ start s (node g (i + k))
+  in-order g next i zero h = let q : i + zero ≡ i = omega arith in rw q (omega arith)
+  in-order g next i (suc k) h =
+      let q : i + suc k ≡ i + k + 1 = omega arith in
+      rw q (omega (arith, in-order g next i k (omega arith), next (i + k) (omega arith)))
 
   pub decode-order : (i k : ℕ) → i + k < b .n → start s (node ID i) ≤ start s (node ID (i + k))
-  decode-order i zero h = let q : i + zero ≡ i = omega arith in rw q (omega arith)
-  decode-order i (suc k) h =
-      let q : i + suc k ≡ i + k + 1 = omega arith in
-      rw q (omega (arith, decode-order i k (omega arith), decode-next (i + k) (omega arith)))
-
-  pub commit-order : (i k : ℕ) → i + k < b .n → start s (node CM i) ≤ start s (node CM (i + k))
-  commit-order i zero h = let q : i + zero ≡ i = omega arith in rw q (omega arith)
-  commit-order i (suc k) h =
-      let q : i + suc k ≡ i + k + 1 = omega arith in
-      rw q (omega (arith, commit-order i k (omega arith), commit-next (i + k) (omega arith)))
+  decode-order = in-order ID decode-next
 
   -- ---- what starts after what
   -- a source that j's EX waits for
@@ -125,5 +117,5 @@ module _ (b : Block) (l rows : List ℕ) (P : Playing b l rows) where
   window-sooner c j h k r =
       let w : start s (node CM (j - b .w)) + 1 ≤ start s (node ID j) = rw (le-leb (b .w) j (omega arith)) at (decode-later j h) in
       let q : c + (j - b .w - c) ≡ j - b .w = omega arith in
-      let o : start s (node CM c) ≤ start s (node CM (j - b .w)) = rw q at (commit-order c (j - b .w - c) (omega arith)) in
+      let o : start s (node CM c) ≤ start s (node CM (j - b .w)) = rw q at (in-order CM commit-next c (j - b .w - c) (omega arith)) in
       omega (arith, execute-later j, commit-later c (omega arith), w, o, r)

@@ -5,19 +5,16 @@ use mathlib.Core.Bool.{true}
 use mathlib.Core.List.{List, [], _∷_, _++_}
 use native.Mathlib.Omega.{arith}
 use lib.ListN.{length, getD, drop}
-use borrow.Author.Tests.{ne-eqb}
 use Rattle.lists.specs.Lists.{put}
 use Rattle.lists.proofs.JoinedPieces.{piecesIn, pieces-none, pieces-more}
 use Rattle.record.specs.declared.Block.{Block}
 use Rattle.model.specs.Nodes.{IF, ID, EX, WB, CM, node, chosen}
 use Rattle.model.specs.Cycles.{start, ready, threeTimes, playTable}
-use Rattle.schedules.proofs.PlayExecutions.{starts-ready}
 use Rattle.unpacked.specs.inside.ReadyByStage.{readyEX}
-use Rattle.unpacked.proofs.ReadyTimes.{stage-node}
 use Rattle.choices.specs.inside.InstructionRows.{Playing}
 use Rattle.choices.specs.inside.NoteSteps.{fixed, sourcesOf, Noted, rowInto}
 use Rattle.choices.specs.inside.PlayNotes.{starts, ends, Notes}
-use Rattle.choices.proofs.PlayTimes.{execute-ready, ends-one, ends-EX, write-end}
+use Rattle.choices.proofs.PlayTimes.{off-EX, execute-ready, ends-one, ends-EX, write-end}
 use Rattle.choices.proofs.StartChosen.{serves, start-most, sources-known}
 
 same-three : (a b c a′ b′ c′ : ℕ) → a ≡ a′ → b ≡ b′ → c ≡ c′ → _≡_ {A = List ℕ} (a ∷ b ∷ c ∷ []) (a′ ∷ b′ ∷ c′ ∷ [])
@@ -60,8 +57,7 @@ module _ (b : Block) (l : List ℕ) where
     three-off : (g : ℕ) → g < 5 → (g ≡ EX → ⊥) → three (node g c) ≡ start s (node g c) ∷ start s (node g c) ∷ ends b l (node g c) ∷ []
     unfolding threeTimes
     three-off g h ne =
-        let e = starts-ready b (P .accepted) (P .cap) l (P .fit) (node g c) (omega (arith, few)) (rw (stage-node g c h) (ne-eqb g EX ne)) in
-        rw (← e) refl
+        let e = off-EX b l rows P g c few h ne in rw (← e) refl
 
     -- and the node takes one cycle
     three-one : (g y : ℕ) → g < 5 → (g ≡ EX → ⊥) → y ≡ ends b l (node g c) → (y - 1) ∷ (y - 1) ∷ y ∷ [] ≡ three (node g c)
@@ -71,19 +67,19 @@ module _ (b : Block) (l : List ℕ) where
 
     -- ---- the notes of c
     fetch-at : getD x (176 + c) 0 ≡ start s (node IF c)
-    fetch-at = N .lines .fetch .each c (omega (arith, N .past))
+    fetch-at = N .off-EX .fetch .each c (omega (arith, N .past))
 
     fetched-at : getD x (268 + c) 0 ≡ ends b l (node IF c)
-    fetched-at = N .lines .fetched .each c (omega (arith, N .past))
+    fetched-at = N .off-EX .fetched .each c (omega (arith, N .past))
 
     decoded-at : getD x (360 + c) 0 ≡ ends b l (node ID c)
-    decoded-at = N .lines .decoded .each c (omega (arith, N .past))
+    decoded-at = N .off-EX .decoded .each c (omega (arith, N .past))
 
     written-at : getD x (c + 1) 0 ≡ ends b l (node WB c)
     written-at = N .fixes .written c few has .0
 
     committed-at : getD x (452 + c) 0 ≡ ends b l (node CM c)
-    committed-at = N .lines .committed .each c (omega arith)
+    committed-at = N .off-EX .committed .each c (omega arith)
 
     three-fetch : getD x (176 + c) 0 ∷ getD x (176 + c) 0 ∷ getD x (268 + c) 0 ∷ [] ≡ three (5 * c)
     three-fetch =

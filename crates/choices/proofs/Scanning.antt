@@ -9,18 +9,18 @@ use borrow.Author.Tests.{ltb-true, ltb-false}
 use Rattle.lists.specs.Lists.{pick}
 use Rattle.lists.proofs.Bools.{by-test}
 use Rattle.choices.specs.declared.Choice.{Choice}
-use Rattle.choices.specs.inside.NoteSteps.{readyOf, keyOf, Rising}
+use Rattle.choices.specs.inside.NoteSteps.{never, readyOf, keyOf, Rising}
 
 module _ (rows x : List ℕ) where
   -- v is the first of those that can start first, of the instructions from c on and below j
   pub record Best (c j : ℕ) (v : Choice) : Type 0 where
     pub from : c ≤ v .at
     pub below : v .at < j
-    pub most : v .start ≤ 65535
+    pub most : v .start ≤ never
     pub start : v .start ≡ keyOf rows x (v .at)
     pub least : (i : ℕ) → c ≤ i → i < j → (v .start ≤ keyOf rows x i) × (i < v .at → v .start < keyOf rows x i)
 
-  pub best-one : (c r : ℕ) → r ≤ 65535 → r ≡ keyOf rows x c → Best c (c + 1) (record { at = c; start = r })
+  pub best-one : (c r : ℕ) → r ≤ never → r ≡ keyOf rows x c → Best c (c + 1) (record { at = c; start = r })
   best-one c r m e =
       record {
         from = omega arith;
@@ -65,7 +65,7 @@ module _ (rows x : List ℕ) where
         (λ t. let less = ltb-false k (v .start) t in best-kept less (at ∙ rw t refl) (omega arith))
 
   -- ---- none further on can start before it is decoded
-  pub key-over : (m i j : ℕ) → Rising m x → j ≤ i → i < m → getD x (360 + j) 0 ≤ keyOf rows x i
+  key-over : (m i j : ℕ) → Rising m x → j ≤ i → i < m → getD x (360 + j) 0 ≤ keyOf rows x i
   unfolding keyOf readyOf
   key-over m i j R l h = omega (arith, R .each j i l h)
 

@@ -9,6 +9,8 @@ use lib.ListN.{getD}
 use lib.Dec.{ltb}
 use borrow.Author.Tests.{ltb-true, ltb-false}
 use Rattle.lists.proofs.Bools.{by-test}
+use Rattle.record.specs.declared.Block.{Block}
+use Rattle.model.specs.Cycles.{units}
 use Rattle.schedules.specs.inside.SumsBelow.{valueIf}
 use Rattle.choices.specs.inside.PlayNotes.{above}
 
@@ -61,15 +63,15 @@ module _ (t : ℕ) where
       → over q + over r + over u + over e ≡ min 4 (w + valueIf (ltb t e) 1)
   over-held p q r u e w a b c d g =
       by-test (ltb t e)
-      (λ y. rw y (above (ltb-true t e y) (decLe p t)))
+      (λ y. rw y (by-first (ltb-true t e y) (decLe p t)))
       (λ y.
       let h = ltb-false t e y in
       rw y (as-many (over p) (over q) (over r) (over u) (over e) w (over-no p (omega arith)) (over-no e h) g))
     where
-      above : t < e → Dec (p ≤ t) → over q + over r + over u + over e ≡ min 4 (w + 1)
-      above h (yes k) =
+      by-first : t < e → Dec (p ≤ t) → over q + over r + over u + over e ≡ min 4 (w + 1)
+      by-first h (yes k) =
           one-more (over p) (over q) (over r) (over u) (over e) w (over-no p k) (over-yes e h) (over-most q) (over-most r) (over-most u) g
-      above h (no k) =
+      by-first h (no k) =
           all-above (over p) (over q) (over r) (over u) (over e) w (over-yes p (omega arith)) (over-yes q (omega arith)) (over-yes r (omega arith))
           (over-yes u (omega arith)) (over-yes e h) g
 
@@ -84,6 +86,11 @@ module _ (t : ℕ) where
 
   pub first-on : (p q r u m h : ℕ) → m ≤ 4 → over p + over q + over r + over u ≡ min 4 (4 - m + h) → p ≤ t → h < m
   first-on p q r u m h d g k = omega (arith, over-no p k, over-most q, over-most r, over-most u, g)
+
+-- how many units of a kind there may be
+pub units-range : (b : Block) (k : ℕ) → (1 ≤ units b k) × (units b k ≤ 4)
+unfolding units
+units-range b k = (omega arith, omega arith)
 
 -- how many of a kind's four numbers are above a time
 pub above-over : (x : List ℕ) (k t : ℕ)

@@ -1,9 +1,13 @@
 -- What the code chooses from the notes is the next of its kind in the play, at the time that the play has. Assumes nothing.
 --
--- Why: a ready time that is worked out from the notes is the play's, unless a source has no start yet; that source then starts
--- before what waits for it. What cannot be decoded yet waits for the commit of c, and so starts after c. So each instruction
--- without a start either can be compared with the one chosen, or starts after another without a start: what `least` asks. The
--- scan may stop where the finishes of ID have reached the best time, since those rise.
+-- Why: S is the set of instructions whose EX has a start in the notes. The first of a kind's four numbers is the time from which
+-- on S leaves a unit of it. Nothing that S has not starts before that (`late`), and what is ready starts as soon as it has a unit,
+-- if S has all of its kind that start sooner (`soon`). All sources of c, the oldest that S has not, have a start; so its ready
+-- time, as the notes have it, is the play's. Where c is ready by the time that a unit is free, it starts then (`oldest`). Else
+-- the one that can start first is chosen. A ready time that is worked out from the notes is the play's, unless a source has no
+-- start yet; that source then starts before what waits for it. What cannot be decoded yet waits for the commit of c, and so
+-- starts after c. So each that S has not either can be compared with the one chosen, or starts after another that S has not:
+-- that is what `least` asks. The scan may stop where the finishes of ID have reached the best time, since those rise.
 use Prim.Native.Nat.{ℕ, zero, suc, _+_, _-_, _*_, _≤_, _<_, min, max}
 use mathlib.Core.Path.{_≡_, refl, sym, ap, _∙_}
 use mathlib.Core.Bool.{true, false, false≢true}
@@ -30,12 +34,7 @@ use Rattle.choices.specs.inside.InstructionRows.{Playing, Leads}
 use Rattle.choices.specs.inside.NoteSteps.{never, fixed, sourcesOf, readyOf, endOf, keyOf, Rising, Chooses}
 use Rattle.choices.specs.inside.PlayNotes.{starts, ends, Slots, Notes}
 use Rattle.choices.proofs.PlayTimes.{execute-ready, ends-one, ends-EX, ends-most, decode-order, source-sooner, window-sooner}
-use Rattle.choices.proofs.SlotSums.{above-over, first-from, first-on}
-
--- how many units of a kind there are
-units-few : (b : Block) (k : ℕ) → units b k ≤ 4
-unfolding units
-units-few b k = omega arith
+use Rattle.choices.proofs.SlotSums.{units-range, above-over, first-from, first-on}
 
 module _ (b : Block) (l rows : List ℕ) (P : Playing b l rows) where
   abbrev W : Work
@@ -65,17 +64,17 @@ module _ (b : Block) (l rows : List ℕ) (P : Playing b l rows) where
       }
 
   -- ---- units: the first of a kind's four numbers is the first time at which one is free
-  pub slots-free : (k : ℕ) (x : List ℕ) → Slots b l k x → FreeFrom W (fixed x) never k (getD x (128 + 4 * k) 0)
+  slots-free : (k : ℕ) (x : List ℕ) → Slots b l k x → FreeFrom W (fixed x) never k (getD x (128 + 4 * k) 0)
   slots-free k x S =
       record {
         from = λ t h u.
-            first-from t _ _ _ _ (units b k) (held W (fixed x) k t) (S .first) (S .second) (S .third) (units-few b k)
+            first-from t _ _ _ _ (units b k) (held W (fixed x) k t) (S .first) (S .second) (S .third) (units-range b k .1)
             (sym (above-over x k t) ∙ S .count t h) u;
-        on = λ t h u. first-on t _ _ _ _ (units b k) (held W (fixed x) k t) (units-few b k) (sym (above-over x k t) ∙ S .count t h) u;
+        on = λ t h u. first-on t _ _ _ _ (units b k) (held W (fixed x) k t) (units-range b k .1) (sym (above-over x k t) ∙ S .count t h) u;
       }
 
   module _ (c m : ℕ) (x : List ℕ) (N : Notes b l c m x) where
-    pub free-at : (i : ℕ) → i < b .n → FreeFrom W (fixed x) never (W .kind i) (endOf rows x i)
+    free-at : (i : ℕ) → i < b .n → FreeFrom W (fixed x) never (W .kind i) (endOf rows x i)
     unfolding endOf
     free-at i h =
         rw (P .has .kind i h) (slots-free (entry b i .kind) x (N .fixes .slots (entry b i .kind) (omega (arith, A .instruction i h .kind))))
@@ -156,11 +155,11 @@ module _ (b : Block) (l rows : List ℕ) (P : Playing b l rows) where
     gone-ready j h on = omega (arith, N .fixes .gone j h on)
 
     -- those of the oldest have all started
-    pub oldest-ready : c < m → fixed x c ≡ false → readyOf rows x c ≡ W .ready c
+    oldest-ready : c < m → fixed x c ≡ false → readyOf rows x c ≡ W .ready c
     oldest-ready h off = ⊎-elim (λ e. e) (λ w. absurd (false≢true (sym (w .0 .2) ∙ N .passed (w .0 .0) (w .0 .1)))) (ready-or c h off)
 
     -- ---- the finishes of ID rise
-    pub rising : Rising m x
+    rising : Rising m x
     rising = record { each = each }
       where
         each : (i j : ℕ) → i ≤ j → j < m → getD x (360 + i) 0 ≤ getD x (64 + j) 0
@@ -168,7 +167,7 @@ module _ (b : Block) (l rows : List ℕ) (P : Playing b l rows) where
             let g : j < b .n = omega (arith, N .few) in
             let q : i + (j - i) ≡ j = omega arith in
             let o : start s (node ID i) ≤ start s (node ID j) = rw q at (decode-order b l rows P i (j - i) (omega arith)) in
-            let a : getD x (360 + i) 0 ≡ ends b l (node ID i) = N .lines .decoded .each i (omega arith) in
+            let a : getD x (360 + i) 0 ≡ ends b l (node ID i) = N .off-EX .decoded .each i (omega arith) in
             let e = ends-one b l rows P ID i (omega arith) (λ e. omega arith) in
             let f = ends-one b l rows P ID j (omega arith) (λ e. omega arith) in
             by-test (fixed x j)

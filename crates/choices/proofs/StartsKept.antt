@@ -31,7 +31,7 @@ module _ (x x′ : List ℕ) where
 
 module _ (b : Block) (l x x′ : List ℕ) (few : b .n ≤ 60) where
   -- the units of a kind whose four numbers are kept
-  pub slots-same : (k : ℕ) → ((p : ℕ) → 128 + 4 * k ≤ p → p < 132 + 4 * k → getD x′ p 0 ≡ getD x p 0)
+  slots-same : (k : ℕ) → ((p : ℕ) → 128 + 4 * k ≤ p → p < 132 + 4 * k → getD x′ p 0 ≡ getD x p 0)
       → ((i : ℕ) → i < b .n → fixed x′ i ≡ fixed x i) → Slots b l k x → Slots b l k x′
   slots-same k h f S =
       let p = h (128 + 4 * k) (omega arith) (omega arith) in

@@ -1,9 +1,9 @@
 // EX: its starts are fixed one by one.
 ghost use mathlib.Core.Path.{_≡_};
-ghost use Prim.Native.Nat.{ℕ, _≤_, _<_, min};
+ghost use Prim.Native.Nat.{_≤_, _<_, min};
 ghost use lib.Dec.{ltb};
 ghost use Rattle.lists.specs.Lists.{pick};
-ghost use Rattle.choices.specs.inside.InstructionRows.{Leads};
+ghost use Rattle.choices.specs.inside.InstructionRows.{Leads, Span};
 ghost use Rattle.choices.specs.inside.NoteSteps.{never, sourcesOf, readyOf, endOf, keyOf, Soonest, Chooses, heldInto, startedInto};
 ghost use Rattle.choices.specs.inside.PlayNotes.{Underway, StartsUntil};
 use crate::Choice;
@@ -69,7 +69,7 @@ fn better(best: Choice, i: usize, key: u32) -> Choice
 
 // The one that can start first, of the instructions from c on and below m: c can from r on.
 fn scan(c: usize, m: usize, r: u32, rows: &[u8; 240], x: &[u16; 512]) -> Choice
-    requires { ⌜ (c < m) × (m ≤ 60) × ((i : ℕ) → i < m → Leads i (now rows)) × (r ≤ never) × (r ≡ keyOf (now rows) (now x) c) ⌝ }
+    requires { ⌜ Span c m (now rows) × (r ≤ never) × (r ≡ keyOf (now rows) (now x) c) ⌝ }
     ensures { λ v. ⌜ Soonest c m (now (rows .entry)) (now (x .entry)) v ⌝ }
 {
     let mut best = Choice { at: c, start: r };
@@ -87,7 +87,7 @@ fn scan(c: usize, m: usize, r: u32, rows: &[u8; 240], x: &[u16; 512]) -> Choice
 // The next EX to start, that of c being the oldest that has not: c where it is ready by its unit's time, else the one that
 // can start first.
 fn choose(c: usize, m: usize, rows: &[u8; 240], x: &[u16; 512]) -> Choice
-    requires { ⌜ (c < m) × (m ≤ 60) × ((i : ℕ) → i < m → Leads i (now rows)) ⌝ }
+    requires { ⌜ Span c m (now rows) ⌝ }
     ensures { λ r. ⌜ Chooses c m (now (rows .entry)) (now (x .entry)) r ⌝ }
 {
     let r = ready_of(c, rows, x);

@@ -6,7 +6,8 @@ mod table;
 
 pub use table::table_into;
 
-// The notes of a play are 512 numbers. At 1 on, by instruction, the finish of WB, or NEVER.
+// The notes of a play are 512 numbers. At 0 stands 0, for no source; from 1 on, by instruction, the finish of WB.
+// NEVER: not known yet, a number above every time.
 pub const NEVER: u16 = 65535;
 
 // The finish of ID, or NEVER once EX has a start.

@@ -2,13 +2,13 @@
 ghost use mathlib.Core.Path.{_≡_};
 ghost use Prim.Native.Nat.{_≤_};
 ghost use lib.ListN.{length};
-ghost use Rattle.choices.specs.inside.InstructionRows.{Rows};
+ghost use Rattle.choices.specs.inside.InstructionRows.{InstructionRows};
 use record::Block;
 
 // Kind, latency, and one more than each of the two sources, 0 where there is none: four bytes an instruction.
 pub fn rows_of(b: Block, lat: &[u8]) -> [u8; 240]
     requires { ⌜ (b .n ≤ 60) × (length (now lat) ≡ b .n) ⌝ }
-    ensures { λ r. ⌜ Rows b (now (lat .entry)) r ⌝ }
+    ensures { λ r. ⌜ InstructionRows b (now (lat .entry)) r ⌝ }
 {
     let n = b.n as usize;
     let mut rows = [0u8; 240];

@@ -21,7 +21,6 @@ use crate::notes::decode_until;
 use crate::notes::first_notes;
 use crate::rows::rows_of;
 use record::Block;
-use unpacked::index;
 use unpacked::larger;
 use unpacked::time;
 use unpacked::wide;

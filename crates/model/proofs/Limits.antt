@@ -118,7 +118,7 @@ smaller-most false p m x y h g = omega arith
 
 module _ (b : Block) (A : Ranges b) where
   -- no ready time is above the finishes before it
-  pub ready-most : (lat : ℕ → ℕ) (s : List ℕ) (m v : ℕ) → ((u : ℕ) → u < v → finish lat s u ≤ m) → ready b lat s v ≤ m
+  ready-most : (lat : ℕ → ℕ) (s : List ℕ) (m v : ℕ) → ((u : ℕ) → u < v → finish lat s u ≤ m) → ready b lat s v ≤ m
   unfolding ready finish
   ready-most lat s m v h =
       let f : largest (map (finish lat s) (finishInto b v)) ≤ m

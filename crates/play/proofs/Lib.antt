@@ -5,4 +5,4 @@ pub mod NodeTest
 pub mod UnitsHeld
 pub mod UnitsFree
 pub mod CycleByNode
-pub mod PlayLimits
+pub mod KindsAndLength

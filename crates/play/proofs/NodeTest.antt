@@ -82,7 +82,7 @@ module _ (t : ℕ) (s : List ℕ) (w : Timed t s) where
 
 module _ (b : Block) (h : Shape) (s1 s2 : List ℕ) (U : Unpacked b h s1 s2) (kinds l : List ℕ) (L : Kinds b kinds) where
   -- what the code works out is the model's ready time
-  pub stage-ready : (s : List ℕ) (i g : ℕ) → i < b .n → g < 5
+  stage-ready : (s : List ℕ) (i g : ℕ) → i < b .n → g < 5
       → stageReady h (getD s1 i 0) (getD s2 i 0) (getD l i 0) s i g ≡ ready b (chosen b l) s (node g i)
   unfolding stageReady
   stage-ready s i g m k =

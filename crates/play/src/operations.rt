@@ -1,13 +1,10 @@
 // The operations: one cycle, the play table, the length of a play.
 ghost use mathlib.Core.Path.{_≡_};
 ghost use mathlib.Core.Bool.{false};
-ghost use mathlib.Core.List.{_++_};
-ghost use Prim.Native.Nat.{_*_, _≤_};
-ghost use lib.ListN.{length, drop};
 ghost use Rattle.record.specs.Refusals.{meaning, blockVerdict, verdict};
 ghost use Rattle.record.specs.Promises.{Whole};
 ghost use Rattle.model.specs.Nodes.{chosen};
-ghost use Rattle.model.specs.Cycles.{firstState, cycle, play, playTable, unfit};
+ghost use Rattle.model.specs.Cycles.{firstState, cycle, unfit};
 ghost use Rattle.play.specs.Refusals.{listTests, lengthTests};
 ghost use Rattle.play.specs.Promises.{stateOf, PlaysCycle, Plays, GivesPlayLength};
 use crate::PlayLength;

@@ -67,7 +67,7 @@ module _ (W : Work) (P : Served W) (S : ℕ → Bool) (F : Front W S) (H : ℕ) 
 
   -- WHAT IS READY STARTS ONCE S LEAVES A UNIT, IF S HAS ALL OF ITS KIND THAT START SOONER. Else all units are taken when it has
   -- its turn, by what started sooner; S has that, and it finishes after t; so S leaves no unit
-  soon : (i t : ℕ) → i < W .n → W .ready i ≤ t → held W S (W .kind i) t < W .units (W .kind i)
+  pub soon : (i t : ℕ) → i < W .n → W .ready i ≤ t → held W S (W .kind i) t < W .units (W .kind i)
       → ((j : ℕ) → j < W .n → W .kind j ≡ W .kind i → Sooner W j t i → S j ≡ true) → W .start i ≤ t
   unfolding held
   soon i t l ready unit has = by-start (decLe (W .start i) t)
@@ -83,9 +83,9 @@ module _ (W : Work) (P : Served W) (S : ℕ → Bool) (F : Front W S) (H : ℕ) 
 
   -- ONE THAT CAN START AT t, AND NOT BEFORE, STARTS THEN, IF ALL OF ITS KIND THAT S HAS NOT ARE BEHIND IT. What starts sooner than
   -- one at t is not behind it, so S has it
-  fixed : (i e t : ℕ) → i < W .n → FreeFrom W S H (W .kind i) e → W .ready i ≤ t → e ≤ t → t ≤ W .start i
+  starts-then : (i e t : ℕ) → i < W .n → FreeFrom W S H (W .kind i) e → W .ready i ≤ t → e ≤ t → t ≤ W .start i
       → ((j : ℕ) → j < W .n → W .kind j ≡ W .kind i → S j ≡ false → Behind W i t j) → Fixes W S i t
-  fixed i e t l free ready unit least rest =
+  starts-then i e t l free ready unit least rest =
       let is : W .start i ≡ t = omega (arith, soon i t l ready (free .on t (omega (arith, top i l)) unit) has) in
       record {
         start = is;
@@ -104,7 +104,7 @@ module _ (W : Work) (P : Served W) (S : ℕ → Bool) (F : Front W S) (H : ℕ) 
   -- before that time, and none stands before it
   pub oldest : (i e : ℕ) → i < W .n → S i ≡ false → ((j : ℕ) → j < i → S j ≡ true) → FreeFrom W S H (W .kind i) e → W .ready i ≤ e → Fixes W S i e
   oldest i e l off first free ready =
-      fixed i e e l free ready (omega arith) (late i e l off free)
+      starts-then i e e l free ready (omega arith) (late i e l off free)
       (λ j g k out. (late j e g out (rw k free), λ h. absurd (false≢true (sym out ∙ first j h))))
 
   -- ONE THAT CAN START AT t STARTS THEN, IF EACH THAT S HAS NOT IS BEHIND IT, OR STARTS AFTER ANOTHER THAT S HAS NOT. Going from
@@ -113,7 +113,7 @@ module _ (W : Work) (P : Served W) (S : ℕ → Bool) (F : Front W S) (H : ℕ) 
       → ((j : ℕ) → j < W .n → S j ≡ false → Behind W i t j ⊎ ((m : ℕ) × (m < W .n) × (S m ≡ false) × (W .start m < W .start j)))
       → Fixes W S i t
   least i e t l off free is rest =
-      fixed i e t l free (omega arith) (omega arith) (omega (arith, late i e l off free, P .ready i l))
+      starts-then i e t l free (omega arith) (omega arith) (omega (arith, late i e l off free, P .ready i l))
       (λ j g k out. behind (suc (W .start j)) j g out (omega arith))
     where
       behind : (k j : ℕ) → j < W .n → S j ≡ false → W .start j < k → Behind W i t j

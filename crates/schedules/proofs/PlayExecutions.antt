@@ -49,14 +49,14 @@ module _ (b : Block) (z : blockVerdict b ≡ (0, 0)) (cap : (i : ℕ) → entry 
   -- ---- the latencies are inside their limits, and so are the times
 
   -- no latency is 0
-  pub fitting-least : (v : ℕ) → v < nodes b → 1 ≤ chosen b l v
+  fitting-least : (v : ℕ) → v < nodes b → 1 ≤ chosen b l v
   unfolding chosen
   fitting-least v h =
       let i : instruction v < b .n = omega arith in
       latency-some _ v (omega (arith, L .least (instruction v) i, ranges b z .instruction (instruction v) i .lo))
 
   -- none is above the highest
-  pub fitting-most : (v : ℕ) → v < nodes b → chosen b l v ≤ highest b v
+  fitting-most : (v : ℕ) → v < nodes b → chosen b l v ≤ highest b v
   unfolding chosen highest
   fitting-most v h = latency-mono _ _ v (L .most (instruction v) (omega arith))
 

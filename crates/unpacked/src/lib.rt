@@ -1,5 +1,5 @@
-// What the analysis and the play both ask of a block again and again: its header's numbers, its columns, its last writers,
-// and the ready time of each stage.
+// What the analysis and a cycle of play both ask of a block again and again: its header's numbers, its columns, its last
+// writers, and the ready time of each stage. The whole play takes the header's numbers from here.
 mod columns;
 mod numbers;
 mod stages;

@@ -11,7 +11,7 @@ use Rattle.schedules.specs.inside.Executions.{Fitting}
 use Rattle.unpacked.specs.inside.UnpackedBlock.{code}
 
 -- the rows of the instructions of b under the latencies l
-pub record Rows (b : Block) (l rows : List ℕ) : Type 0 where
+pub record InstructionRows (b : Block) (l rows : List ℕ) : Type 0 where
   pub kind : (i : ℕ) → i < b .n → getD rows (4 * i) 0 ≡ entry b i .kind
   pub takes : (i : ℕ) → i < b .n → getD rows (4 * i + 1) 0 ≡ getD l i 0
   pub first : (i : ℕ) → i < b .n → getD rows (4 * i + 2) 0 ≡ code (source b (entry b i .reads1) i)
@@ -25,9 +25,15 @@ pub record Leads (i : ℕ) (rows : List ℕ) : Type 0 where
   pub first : getD rows (4 * i + 2) 0 ≤ 60
   pub second : getD rows (4 * i + 3) 0 ≤ 60
 
--- an accepted block, latencies that its entries allow, and its rows
+-- instructions from c on and below m, some of 60, with their rows
+pub record Span (c m : ℕ) (rows : List ℕ) : Type 0 where
+  pub some : c < m
+  pub few : m ≤ 60
+  pub leads : (i : ℕ) → i < m → Leads i rows
+
+-- an accepted block of a value of the code, latencies that its entries allow, and its rows
 pub record Playing (b : Block) (l rows : List ℕ) : Type 0 where
   pub accepted : blockVerdict b ≡ (0, 0)
   pub cap : (i : ℕ) → entry b i .hi ≤ 255
   pub fit : Fitting b l
-  pub has : Rows b l rows
+  pub has : InstructionRows b l rows

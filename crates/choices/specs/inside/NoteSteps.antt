@@ -1,7 +1,7 @@
--- The notes of a play, a list of 512 numbers, and what each step of the code does to them. At 1 on, by instruction, stand the
--- finishes of WB; at 64 on those of ID, until EX has a start; at 128 on until when each unit is held, four of a kind, rising;
--- and, each after 32 zeros, at 176 on the starts of IF, at 268 on its finishes, at 360 on those of ID, at 452 on those of CM.
--- Only promises of inside functions use these words.
+-- The notes of a play, a list of 512 numbers, and what each step of the code does to them. At 0 stands 0, for no source; from
+-- 1 on, by instruction, the finishes of WB; from 64 on those of ID, until EX has a start; from 128 on until when each unit is
+-- held, four numbers a kind, rising; and, each after 32 zeros, from 176 on the starts of IF, from 268 on its finishes, from 360
+-- on those of ID, from 452 on those of CM. Only promises of inside functions use these words.
 use Prim.Native.Nat.{ℕ, _+_, _-_, _*_, _%_, _≤_, _<_, min, max}
 use mathlib.Core.Path.{_≡_}
 use mathlib.Core.Bool.{Bool, not}
@@ -29,7 +29,7 @@ pub record UnitsFree (x x′ : List ℕ) : Type 0 where
   pub long : length x′ ≡ 512
   pub free : (b : Block) (k z : ℕ) → k < 4 → z < 4 → getD x′ (128 + 4 * k + z) 0 ≡ pick (ltb z (units b k)) 0 never
   pub below : (p : ℕ) → p < 128 → getD x′ p 0 ≡ getD x p 0
-  pub above : (p : ℕ) → 144 ≤ p → getD x′ p 0 ≡ getD x p 0
+  pub beyond : (p : ℕ) → 144 ≤ p → getD x′ p 0 ≡ getD x p 0
 
 -- ---- off EX
 

@@ -16,7 +16,7 @@ use Rattle.choices.specs.inside.InstructionRows.{Playing}
 use Rattle.choices.specs.inside.NoteSteps.{never, fixed}
 
 -- 32 zeros from o on, and after them f of the numbers below m
-pub record Line (x : List ℕ) (o m : ℕ) (f : ℕ → ℕ) : Type 0 where
+pub record Times (x : List ℕ) (o m : ℕ) (f : ℕ → ℕ) : Type 0 where
   pub pad : (z : ℕ) → z < 32 → getD x (o + z) 0 ≡ 0
   pub each : (i : ℕ) → i < m → getD x (o + 32 + i) 0 ≡ f i
 
@@ -36,11 +36,11 @@ module _ (b : Block) (l : List ℕ) where
   ends v = finish (chosen b l) starts v
 
   -- the times off EX
-  pub record Lines (c m : ℕ) (x : List ℕ) : Type 0 where
-    pub fetch : Line x 144 m (λ i. start starts (node IF i))
-    pub fetched : Line x 236 m (λ i. ends (node IF i))
-    pub decoded : Line x 328 m (λ i. ends (node ID i))
-    pub committed : Line x 420 c (λ i. ends (node CM i))
+  pub record OffEX (c m : ℕ) (x : List ℕ) : Type 0 where
+    pub fetch : Times x 144 m (λ i. start starts (node IF i))
+    pub fetched : Times x 236 m (λ i. ends (node IF i))
+    pub decoded : Times x 328 m (λ i. ends (node ID i))
+    pub committed : Times x 420 c (λ i. ends (node CM i))
 
   -- the units of kind k: four numbers, rising, of which as many are above t as EX that are fixed finish after t, and as
   -- many more as there are units too few
@@ -65,7 +65,7 @@ module _ (b : Block) (l : List ℕ) where
     pub long : length x ≡ 512
     pub past : c ≤ m
     pub few : m ≤ b .n
-    pub lines : Lines c m x
+    pub off-EX : OffEX c m x
     pub fixes : Starts m x
     pub passed : (i : ℕ) → i < c → fixed x i ≡ true
 

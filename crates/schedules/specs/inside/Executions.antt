@@ -1,6 +1,6 @@
 -- The EX of a play by instruction: kind, latency, ready time and start of each. What a schedule keeps of them, and a set S of
--- instructions whose starts are known. No promise and no demand is stated with them, so nobody needs to believe them. That
--- every play keeps them is in proofs/PlayExecutions, what follows from them in proofs/Choosing.
+-- instructions whose starts are known. Only promises of inside functions use these words. That every play keeps them is in
+-- proofs/PlayExecutions, what follows from them in proofs/Choosing.
 use Prim.Native.Nat.{ℕ, _+_, _≤_, _<_}
 use mathlib.Core.Path.{_≡_}
 use mathlib.Core.Bool.{Bool, true, false, _&&_}
@@ -64,7 +64,7 @@ pub record FreeFrom (W : Work) (S : ℕ → Bool) (H k e : ℕ) : Type 0 where
   pub from : (t : ℕ) → t < H → held W S k t < W .units k → e ≤ t
   pub on : (t : ℕ) → t < H → e ≤ t → held W S k t < W .units k
 
--- i, which S has not, starts at t, before all others of its kind that S has not
+-- i starts at t, before all others of its kind that S has not
 pub record Fixes (W : Work) (S : ℕ → Bool) (i t : ℕ) : Type 0 where
   pub start : W .start i ≡ t
   pub next : (j : ℕ) → j < W .n → W .kind j ≡ W .kind i → S j ≡ false → (j ≡ i → ⊥) → Sooner W i (W .start j) j

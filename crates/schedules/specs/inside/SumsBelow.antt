@@ -1,5 +1,5 @@
--- Sums, largest values and counts over the numbers below n, for the statements on schedules. No promise and no demand is
--- stated with them, so nobody needs to believe them. Their laws are in proofs/Counting.
+-- Sums, largest values and counts over the numbers below n, for the statements on schedules. Only promises of inside
+-- functions use these words. Their laws are in proofs/Counting.
 use Prim.Native.Nat.{ℕ, zero, suc, _+_, max}
 use mathlib.Core.Bool.{Bool, true, false}
 

@@ -7,10 +7,10 @@ use Rattle.choices.proofs.choosing.choose.Statement.{statement}
 use Rattle.choices.proofs.choosing.choose.Tie as tie
 
 ready-of-requires : tie.Need-ready-of-requires
-ready-of-requires c κs = c .pre .2 (c .args .c) (c .pre .0)
+ready-of-requires c κs = c .pre .leads (c .args .c) (c .pre .some)
 
 end-of-requires : tie.Need-end-of-requires
-end-of-requires c κs = c .before .pre .2 (c .before .args .c) (c .before .pre .0)
+end-of-requires c κs = c .before .pre .leads (c .before .args .c) (c .before .pre .some)
 
 returns : tie.Need-returns
 unfolding keyOf
@@ -21,7 +21,7 @@ returns c =
     let by : readyOf (a .rows .now) (a .x .now) (a .c) ≤ endOf (a .rows .now) (a .x .now) (a .c) = omega (arith, c .if1 .taken, ready .0, end .0) in
     record {
       from = omega arith;
-      below = c .before .before .before .pre .0;
+      below = c .before .before .before .pre .some;
       most = end .1;
       start = omega (arith, end .0, by);
       oldest = λ h. refl;
@@ -33,7 +33,7 @@ unfolding keyOf
 scan-requires c κs =
     let ready = c .before .before .ready-of .ensures in
     let p = c .before .before .before .pre in
-    (p .0, p .1, p .2, ready .1, omega (arith, c .if1 .left, ready .0, c .before .end-of .ensures .0))
+    (p, ready .1, omega (arith, c .if1 .left, ready .0, c .before .end-of .ensures .0))
 
 returns-2 : tie.Need-returns-2
 returns-2 c =

@@ -18,7 +18,7 @@ abbrev μ-loop : tie.MeasureT-loop
 loop-holds : tie.Need-loop-holds Inv-loop μ-loop
 loop-holds c =
     let a = c .args in
-    (omega arith, omega (arith, c .pre .0), best-one (a .rows .now) (a .x .now) (a .c) (a .r) (c .pre .3) (c .pre .4))
+    (omega arith, omega (arith, c .pre .0 .some), best-one (a .rows .now) (a .x .now) (a .c) (a .r) (c .pre .1) (c .pre .2))
 
 -- the turn's loop
 abbrev loop-of : tie.Else1 Inv-loop μ-loop → tie.At-loop Inv-loop μ-loop
@@ -43,7 +43,7 @@ returns c =
 key-of-requires : tie.Need-key-of-requires Inv-loop μ-loop
 key-of-requires c κs =
     let loop = loop-of c in
-    loop .before .pre .2 (loop .loop .j) (c .before .before .before .before .loop-test .taken)
+    loop .before .pre .0 .leads (loop .loop .j) (c .before .before .before .before .loop-test .taken)
 
 loop-again : tie.Need-loop-again Inv-loop μ-loop
 loop-again c =

@@ -53,7 +53,7 @@ element-copy-out-if1 : tie.Need-element-copy-out-if1 Inv-loop μ-loop
 element-copy-out-if1 c = omega (arith, c .before .pre .some, few (c .before))
 
 choose-requires : tie.Need-choose-requires Inv-loop μ-loop
-choose-requires c κs = let s = loop-of (c .before) .before in (s .pre .some, few s, led s)
+choose-requires c κs = let s = loop-of (c .before) .before in record { some = s .pre .some; few = few s; leads = led s }
 
 -- the instruction chosen is one of the decoded
 near : (c : tie.After-choose Inv-loop μ-loop) → c .choose .result .at < 60

@@ -55,7 +55,7 @@ returns c =
           (u .below 0 (omega arith) ∙ t .inv .3 0 (λ g h. omega arith))
           (λ i h. u .below (i + 1) (omega arith) ∙ t .inv .2 i (omega arith))
           (u .free b)
-          (λ p h. u .above p h ∙ t .inv .3 p (λ g k. omega arith));
+          (λ p h. u .beyond p h ∙ t .inv .3 p (λ g k. omega arith));
     }
 
 pub first-notes-spec : {M : Type 1} → statement M

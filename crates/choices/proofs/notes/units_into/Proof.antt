@@ -60,7 +60,7 @@ returns c =
           let d : 128 + 4 * k + z ≡ 128 + (4 * k + z) = omega arith in
           rw d (i .2 b k (4 * k + z) (omega arith) ∙ rw e refl);
       below = i .3;
-      above = i .4;
+      beyond = i .4;
     }
 
 pub units-into-spec : {M : Type 1} → statement M

@@ -130,6 +130,7 @@ module _ (c : tie.After-until-started Inv-loop μ-loop) (b : Block)
   started-notes =
       c .until-started .ensures .notes b (lat (turn (end-of decode) .before)) P (omega (arith, reached decode b P H)) (decoded-notes decode b P H)
 
+-- notes by another name
 same-notes : (b : Block) (l : List ℕ) (c m : ℕ) (x x′ : List ℕ) → x′ ≡ x → Notes b l c m x → Notes b l c m x′
 same-notes b l c m x x′ e N = rw e N
 

@@ -8,7 +8,7 @@ use Rattle.play.specs.inside.PlayFacts.{Timed}
 use Rattle.play.proofs.UnfitStates.{fit-now, fit-timed}
 use Rattle.play.proofs.LatencyList.{listed}
 use Rattle.unpacked.proofs.BlockColumns.{few, unpacked}
-use Rattle.play.proofs.PlayLimits.{kinds-are, kinds-four, cycled}
+use Rattle.play.proofs.KindsAndLength.{kinds-are, kinds-four, cycled}
 use borrow.Author.Needs.{needs}
 use Rattle.play.proofs.operations.next_state.Statement.{statement}
 use Rattle.play.proofs.operations.next_state.Tie as tie
@@ -53,7 +53,7 @@ returns c =
     let x = c .before .before .before .before .before .before .before .before .before .before .sources in
     let y = c .before .before .before .before .before .before .before .before .before .sources2 in
     let U = unpacked (a .b) (p .0) (h .result) (x .result) (y .result) (h .ensures) (x .ensures .0) (y .ensures .0) in
-    let L = kinds-are (a .b) (p .0) (k .result) (k .ensures) in
+    let L = kinds-are (a .b) (k .result) (k .ensures) in
     let t = c .before .before .before .before .wide in
     let w : Timed (t .result) s = rw (t .ensures .0) (fit-timed (a .b) (stateOf (a .p)) m (p .2)) in
     cycled (a .b) (chosen (a .b) (a .lat .now)) (stateOf (a .p)) (t .result) _ (t .ensures .0) (c .before .before .cycle-into .ensures (a .b) U L w)

@@ -6,7 +6,7 @@ use Rattle.unpacked.proofs.BlockColumns.{few}
 use Rattle.record.proofs.Answers.{accepted-so}
 use Rattle.play.proofs.LatencyList.{listed, accepted-fitting}
 use Rattle.play.proofs.Outcomes.{length-fine, length-refused, length-done}
-use Rattle.play.proofs.PlayLimits.{some, length-last}
+use Rattle.play.proofs.KindsAndLength.{some, length-last}
 use borrow.Author.Needs.{needs}
 use Rattle.play.proofs.operations.play_length.Statement.{statement}
 use Rattle.play.proofs.operations.play_length.Tie as tie

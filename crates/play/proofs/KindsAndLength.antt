@@ -13,12 +13,12 @@ use Rattle.model.proofs.TableNumbers.{play-at, length-plays}
 use Rattle.unpacked.proofs.BlockColumns.{Column, kind-column}
 use Rattle.play.specs.inside.PlayFacts.{Kinds}
 
+pub kinds-are : (b : Block) (kinds : List ℕ) → Column b 0 kinds → Kinds b kinds
+kinds-are b kinds e = record { kind = kind-column b kinds e }
+
 module _ (b : Block) (z : blockVerdict b ≡ (0, 0)) where
   pub some : 1 ≤ b .n
   some = ranges b z .n .0
-
-  pub kinds-are : (kinds : List ℕ) → Column b 0 kinds → Kinds b kinds
-  kinds-are kinds e = record { kind = kind-column b kinds e }
 
   pub kinds-four : (kinds : List ℕ) → Column b 0 kinds → (i : ℕ) → i < b .n → getD kinds i 0 ≤ 3
   kinds-four kinds e i l = omega (arith, kind-column b kinds e i l, ranges b z .instruction i l .kind)
