@@ -17,7 +17,7 @@ use Rattle.record.proofs.OutputVerdicts.{put-entries, put-seal}
 use Rattle.model.specs.Nodes.{EX, CM, node, nodes, entry}
 use Rattle.model.specs.Cycles.{start, finish}
 use Rattle.model.specs.Rounds.{earliest, windows, bound, roundCount, pairCount, apartCount}
-use Rattle.unpacked.proofs.ReadyTimes.{highest-one, highest-EX}
+use Rattle.model.proofs.Latencies.{highest-one, highest-EX}
 use Rattle.rounds.specs.inside.PairRows.{finishEX}
 use Rattle.analysis.specs.Result.{headOf, resultHead, fourOf, resultTimes, resultEntries, resultBody, result}
 

@@ -21,7 +21,8 @@ use Rattle.model.proofs.Limits.{earliest-limit, round-limit, ready-limit}
 use Rattle.model.proofs.RoundsEnd.{windows-settled}
 use Rattle.unpacked.specs.inside.UnpackedBlock.{Sources}
 use Rattle.unpacked.specs.inside.ReadyByStage.{readyEX}
-use Rattle.unpacked.proofs.ReadyTimes.{highest-one, ready-EX}
+use Rattle.model.proofs.Latencies.{highest-one}
+use Rattle.unpacked.proofs.ReadyTimes.{ready-EX}
 
 -- the latest ready time of node v, as the code has it: s1 and s2 have the sources
 abbrev pub readyOf : List ℕ → List ℕ → List ℕ → ℕ → ℕ

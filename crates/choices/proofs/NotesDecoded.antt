@@ -18,11 +18,11 @@ use Rattle.unpacked.specs.inside.ReadyByStage.{finishBack, startBack, readyIF, 
 use Rattle.unpacked.specs.inside.UnpackedBlock.{Shapes}
 use Rattle.unpacked.specs.declared.Shape.{Shape}
 use Rattle.choices.specs.inside.InstructionRows.{Playing}
-use Rattle.choices.specs.inside.NoteSteps.{fixed, fetchOf, decodedOf, committedOf, decodedInto, committedInto}
+use Rattle.choices.specs.inside.NoteSteps.{fourStores, fixed, fetchOf, decodedOf, committedOf, decodedInto, committedInto}
 use Rattle.choices.specs.inside.PlayNotes.{Times, starts, ends, Notes}
 use Rattle.choices.proofs.NoteTimes.{times-back, times-same, times-more}
 use Rattle.choices.proofs.PlayTimes.{fetch-start, decode-start, commit-start, ends-one, ends-fetch, ends-most}
-use Rattle.choices.proofs.FourStores.{fourStores, four-long, four-other, four-first, four-second, four-third, four-fourth}
+use Rattle.choices.proofs.FourStores.{four-long, four-other, four-first, four-second, four-third, four-fourth}
 use Rattle.choices.proofs.StartsKept.{fixed-same, starts-more, starts-same}
 
 module _ (b : Block) (l rows : List ℕ) (P : Playing b l rows) (h : Shape) (H : Shapes b h) where

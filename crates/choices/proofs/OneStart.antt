@@ -35,16 +35,16 @@ module _ (b : Block) (l rows : List ℕ) (P : Playing b l rows) (c m : ℕ) (x :
     (some : c < m) (all : min (b .n) (c + b .w) ≤ m) (off : fixed x c ≡ false) (v : Choice) (R : Chooses c m rows x v)
     (k y : ℕ) (kind : k ≡ getD rows (4 * v .at) 0) (takes : y ≡ getD rows (4 * v .at + 1) 0) where
   few : v .at < b .n
-  few = omega (arith, R .below, N .few)
+  few = omega (arith, R .among .below, N .few)
 
   from : getD x (128 + 4 * k) 0 ≤ v .start
   unfolding keyOf endOf
-  from = rw kind (omega (arith, R .start))
+  from = rw kind (omega (arith, R .among .start))
 
   pub next-notes : Notes b l c m (startedInto (v .at) (v .start) k y x)
   next-notes =
       let n = chosen-next b l rows P c m x N some all off v R in
-      notes-started b l rows P c m x N (v .at) (v .start) k y (R .below) (n .0) (n .1)
+      notes-started b l rows P c m x N (v .at) (v .start) k y (R .among .below) (n .0) (n .1)
       (kind ∙ P .has .kind (v .at) few) (takes ∙ P .has .takes (v .at) few) from
 
   pub next-less : left m (startedInto (v .at) (v .start) k y x) < left m x
@@ -52,6 +52,6 @@ module _ (b : Block) (l rows : List ℕ) (P : Playing b l rows) (c m : ℕ) (x :
       let n = chosen-next b l rows P c m x N some all off v R in
       let K = kind ∙ P .has .kind (v .at) few in
       let Y = takes ∙ P .has .takes (v .at) few in
-      left-less m (v .at) x (startedInto (v .at) (v .start) k y x) (R .below) (n .0)
-      (started-fixed b l rows P c m x N (v .at) (v .start) k y (R .below) (n .0) (n .1) K Y from)
-      (λ j h ne. started-else b l rows P c m x N (v .at) (v .start) k y (R .below) (n .0) (n .1) K Y from j (omega (arith, N .few)) ne)
+      left-less m (v .at) x (startedInto (v .at) (v .start) k y x) (R .among .below) (n .0)
+      (started-fixed b l rows P c m x N (v .at) (v .start) k y (R .among .below) (n .0) (n .1) K Y from)
+      (λ j h ne. started-else b l rows P c m x N (v .at) (v .start) k y (R .among .below) (n .0) (n .1) K Y from j (omega (arith, N .few)) ne)

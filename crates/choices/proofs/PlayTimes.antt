@@ -5,16 +5,15 @@ use mathlib.Core.Path.{_≡_, refl, ap, _∙_}
 use mathlib.Core.List.{List}
 use native.Mathlib.Omega.{arith}
 use lib.ListN.{getD}
-use lib.Dec.{leb}
 use borrow.Author.Tests.{ne-eqb, le-leb, lt-ltb}
-use Rattle.lists.specs.Lists.{pick}
 use Rattle.record.specs.declared.Block.{Block}
 use Rattle.model.specs.Nodes.{IF, ID, EX, WB, CM, node, entry, source, chosen}
 use Rattle.model.specs.Cycles.{start, finish, ready, play}
 use Rattle.schedules.proofs.PlayExecutions.{play-most, starts-ready}
 use Rattle.unpacked.specs.inside.ReadyByStage.{finishBack, startBack, finishSource, readyIF, readyID, readyEX, readyWB, readyCM}
 use Rattle.unpacked.specs.inside.UnpackedBlock.{code}
-use Rattle.unpacked.proofs.ReadyTimes.{stage-node, chosen-one, chosen-EX, ready-IF, ready-ID, ready-EX, ready-WB, ready-CM}
+use Rattle.model.proofs.Latencies.{stage-node, chosen-one, chosen-EX}
+use Rattle.unpacked.proofs.ReadyTimes.{ready-IF, ready-ID, ready-EX, ready-WB, ready-CM}
 use Rattle.choices.specs.inside.InstructionRows.{Playing}
 use Rattle.choices.specs.inside.PlayNotes.{starts, ends}
 

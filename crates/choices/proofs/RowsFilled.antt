@@ -9,7 +9,8 @@ use Rattle.record.specs.declared.Block.{Block}
 use Rattle.model.specs.Nodes.{entry, source}
 use Rattle.unpacked.specs.inside.UnpackedBlock.{code}
 use Rattle.choices.specs.inside.InstructionRows.{InstructionRows}
-use Rattle.choices.proofs.FourStores.{fourStores, four-other, four-first, four-second, four-third, four-fourth}
+use Rattle.choices.specs.inside.NoteSteps.{fourStores}
+use Rattle.choices.proofs.FourStores.{four-other, four-first, four-second, four-third, four-fourth}
 
 -- the rows of the instructions below j
 module _ (b : Block) (l : List ℕ) where

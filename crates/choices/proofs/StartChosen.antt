@@ -118,22 +118,22 @@ module _ (b : Block) (l rows : List ℕ) (P : Playing b l rows) where
         let e = serves .ready j g in
         (omega (arith, r, e), omega (arith, r, e))
 
-    never-first : (j : ℕ) → j < b .n → getD x (one j) 0 ≡ never → never ≤ readyOf rows x j
+    -- one that has no start yet
+    never-ready : (j : ℕ) → j < b .n → (getD x (one j) 0 ≡ never) ⊎ (getD x (other j) 0 ≡ never) → never ≤ readyOf rows x j
     unfolding readyOf sourcesOf
-    never-first j g e = let q = ap (λ (y : ℕ). getD x y 0) (P .has .first j g) in omega (arith, q, e)
-
-    never-second : (j : ℕ) → j < b .n → getD x (other j) 0 ≡ never → never ≤ readyOf rows x j
-    unfolding readyOf sourcesOf
-    never-second j g e = let q = ap (λ (y : ℕ). getD x y 0) (P .has .second j g) in omega (arith, q, e)
+    never-ready j g w =
+        let p = ap (λ (y : ℕ). getD x y 0) (P .has .first j g) in
+        let q = ap (λ (y : ℕ). getD x y 0) (P .has .second j g) in
+        ⊎-elim (λ e. omega (arith, p, e)) (λ e. omega (arith, q, e)) w
 
     ready-or : (j : ℕ) → j < m → fixed x j ≡ false → (readyOf rows x j ≡ W .ready j) ⊎ (Waits j × (never ≤ readyOf rows x j))
     ready-or j h off =
         let g : j < b .n = omega (arith, N .few) in
         ⊎-elim
         (λ p.
-        ⊎-elim (λ q. inl (ready-known j h off p q)) (λ q. inr (q .0, never-second j g (q .1)))
+        ⊎-elim (λ q. inl (ready-known j h off p q)) (λ q. inr (q .0, never-ready j g (inr (q .1))))
         (source-of j (other j) g (source-most b (entry b j .reads2) j) (source-late j g .1)))
-        (λ p. inr (p .0, never-first j g (p .1)))
+        (λ p. inr (p .0, never-ready j g (inl (p .1))))
         (source-of j (one j) g (source-most b (entry b j .reads1) j) (source-late j g .0))
 
     -- those of one whose elders all have a start
@@ -189,7 +189,7 @@ module _ (b : Block) (l rows : List ℕ) (P : Playing b l rows) where
       unfolding keyOf
       by-oldest h =
           let e = R .oldest h in
-          let t : v .start ≡ endOf rows x c = R .start ∙ rw e (omega arith) in
+          let t : v .start ≡ endOf rows x c = R .among .start ∙ rw e (omega arith) in
           let r = oldest-ready some off in
           rw (e, t)
           (off, oldest W serves (fixed x) (N .fixes .front) never start-most c (endOf rows x c) few off (N .passed) (free-at c few) (omega arith))
@@ -201,7 +201,7 @@ module _ (b : Block) (l rows : List ℕ) (P : Playing b l rows) where
           let r = oldest-ready some off in
           omega (
             arith,
-            R .least h rising c (omega arith) some .0,
+            R .first h rising c (omega arith) some .0,
             serves .ready c few,
             late W serves (fixed x) (N .fixes .front) never start-most c (endOf rows x c) few off (free-at c few),
             start-most c few,
@@ -219,7 +219,7 @@ module _ (b : Block) (l rows : List ℕ) (P : Playing b l rows) where
           decoded d (yes o) =
               ⊎-elim
               (λ r.
-              let n = R .least h rising j o d in
+              let n = R .first h rising j o d in
               let y = serves .ready j g in
               let z = late W serves (fixed x) (N .fixes .front) never start-most j (endOf rows x j) g t (free-at j g) in
               inl (omega (arith, n .0, r, y, z), λ k. omega (arith, n .1 k, r, y, z)))
@@ -235,17 +235,17 @@ module _ (b : Block) (l rows : List ℕ) (P : Playing b l rows) where
       unfolding keyOf
       by-least h =
           let k = chosen-known h in
-          let g : i < b .n = omega (arith, R .below, N .few) in
+          let g : i < b .n = omega (arith, R .among .below, N .few) in
           let out = unstarted k in
           ⊎-elim
           (λ r.
-          let t = R .start ∙ rw r refl in
+          let t = R .among .start ∙ rw r refl in
           (out, least W serves (fixed x) (N .fixes .front) never start-most i (endOf rows x i) (v .start) g out (free-at i g) t (behind h)))
-          (λ w. absurd (omega (arith, w .1, R .start, k)))
-          (ready-or i (R .below) out)
+          (λ w. absurd (omega (arith, w .1, R .among .start, k)))
+          (ready-or i (R .among .below) out)
         where
           unstarted : v .start < never → fixed x i ≡ false
-          unstarted k = by-test (fixed x i) (λ t. absurd (omega (arith, gone-ready i (R .below) t, R .start))) (λ t. t)
+          unstarted k = by-test (fixed x i) (λ t. absurd (omega (arith, gone-ready i (R .among .below) t, R .among .start))) (λ t. t)
 
       pub chosen-next : Next
       chosen-next = by-time (decLe (readyOf rows x c) (endOf rows x c))

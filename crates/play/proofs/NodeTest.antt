@@ -15,7 +15,8 @@ use Rattle.model.specs.Nodes.{EX, node, instruction, isEX, entry, chosen, finis
 use Rattle.model.specs.Cycles.{notStarted, start, started, finish, free, begins, ready}
 use Rattle.unpacked.specs.inside.UnpackedBlock.{Unpacked}
 use Rattle.unpacked.specs.declared.Shape.{Shape}
-use Rattle.unpacked.proofs.ReadyTimes.{stage-node, instruction-node, chosen-one, chosen-EX, ready-IF, ready-ID, ready-EX, ready-WB, ready-CM}
+use Rattle.model.proofs.Latencies.{stage-node, instruction-node, chosen-one, chosen-EX}
+use Rattle.unpacked.proofs.ReadyTimes.{ready-IF, ready-ID, ready-EX, ready-WB, ready-CM}
 use Rattle.play.specs.inside.NodeTurn.{stageReady, fromWhen, can}
 use Rattle.play.specs.inside.PlayFacts.{Kinds, Timed, Units}
 use Rattle.lists.specs.Lists.{In}

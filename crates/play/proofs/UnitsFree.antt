@@ -17,7 +17,7 @@ use Rattle.record.specs.declared.Block.{Block}
 use Rattle.model.specs.Nodes.{EX, node, entry, chosen}
 use Rattle.model.specs.Cycles.{notStarted, start, started, finish, runs, units, free}
 use Rattle.play.specs.inside.PlayFacts.{Kinds, Timed, Units}
-use Rattle.unpacked.proofs.ReadyTimes.{chosen-EX}
+use Rattle.model.proofs.Latencies.{chosen-EX}
 use Rattle.play.proofs.NodeTest.{both-le}
 use Rattle.play.proofs.UnitsHeld.{holds}
 use Rattle.schedules.proofs.CycleTurns.{started-is}

@@ -22,7 +22,7 @@ use Rattle.unpacked.specs.inside.UnpackedBlock.{Unpacked}
 use Rattle.unpacked.specs.declared.Shape.{Shape}
 use Rattle.play.specs.inside.NodeTurn.{stageReady, fromWhen, ended, can}
 use Rattle.play.specs.inside.PlayFacts.{Kinds, Timed, Units}
-use Rattle.unpacked.proofs.ReadyTimes.{chosen-EX}
+use Rattle.model.proofs.Latencies.{chosen-EX}
 
 -- ---- a start more
 pub timed-start : (t : ℕ) (s : List ℕ) (v : ℕ) → Timed t s → Timed t (set s v t)

@@ -25,7 +25,7 @@ use Rattle.model.specs.Cycles.{finish}
 use Rattle.model.specs.Rounds.{earliest, rival, apart, new}
 use Rattle.model.proofs.PairSets.{has-pairs}
 use Rattle.model.proofs.RoundsEnd.{after}
-use Rattle.unpacked.proofs.ReadyTimes.{highest-EX}
+use Rattle.model.proofs.Latencies.{highest-EX}
 use Rattle.rounds.specs.inside.PairRows.{row, Rows, Even, finishEX, apartEX}
 
 -- ---- how many pairs the rows have

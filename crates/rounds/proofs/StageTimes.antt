@@ -24,7 +24,8 @@ use Rattle.model.proofs.RoundRules.{EX-short}
 use Rattle.model.proofs.Limits.{earliest-limit, round-limit}
 use Rattle.unpacked.specs.inside.ReadyByStage.{readyEX, readyWB}
 use Rattle.unpacked.specs.inside.UnpackedBlock.{code}
-use Rattle.unpacked.proofs.ReadyTimes.{lowest-one, lowest-EX, highest-one, highest-EX, ready-IF, ready-ID, ready-EX, ready-WB, ready-CM}
+use Rattle.model.proofs.Latencies.{lowest-one, lowest-EX, highest-one, highest-EX}
+use Rattle.unpacked.proofs.ReadyTimes.{ready-IF, ready-ID, ready-EX, ready-WB, ready-CM}
 use Rattle.rounds.specs.inside.PairRows.{Even, finishEX}
 use Rattle.rounds.specs.inside.FiveStarts.{latestOf}
 use Rattle.rounds.proofs.TimesFilled.{Stepped}

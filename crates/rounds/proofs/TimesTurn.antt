@@ -15,7 +15,8 @@ use Rattle.model.specs.Rounds.{rival, latestStart}
 use Rattle.unpacked.specs.declared.Shape.{Shape}
 use Rattle.unpacked.specs.inside.ReadyByStage.{readyEX}
 use Rattle.unpacked.specs.inside.UnpackedBlock.{Unpacked}
-use Rattle.unpacked.proofs.ReadyTimes.{lowest-one, ready-EX}
+use Rattle.model.proofs.Latencies.{lowest-one}
+use Rattle.unpacked.proofs.ReadyTimes.{ready-EX}
 use Rattle.rounds.specs.inside.PairRows.{Even}
 use Rattle.rounds.specs.inside.FiveStarts.{fetched, committed, latestOf}
 use Rattle.lists.proofs.BufferFill.{Filled}

@@ -1,13 +1,12 @@
 -- The EX of every play, by instruction, are served as a schedule demands: none starts before it is ready, one that is ready and
 -- waits does so for all units of its kind, and one that starts has a unit. Off EX a node starts when it is ready. Assumes nothing.
-use Prim.Native.Nat.{ℕ, _/_, _%_, _≤_, _<_}
+use Prim.Native.Nat.{ℕ, _≤_, _<_}
 use mathlib.Core.Path.{_≡_, refl, _∙_}
 use mathlib.Core.Bool.{false}
 use mathlib.Core.List.{List}
 use native.Mathlib.Omega.{arith}
 use native.Mathlib.Decide.{decLe}
-use lib.Dec.{leb}
-use lib.ListN.{getD}
+use lib.Dec.{T, leb}
 use borrow.Author.Tests.{leb-true, le-leb}
 use Rattle.lists.proofs.Bools.{same-test}
 use Rattle.record.specs.Refusals.{blockVerdict}
@@ -15,7 +14,7 @@ use Rattle.record.specs.declared.Block.{Block}
 use Rattle.record.proofs.AcceptedRanges.{ranges}
 use Rattle.model.specs.Nodes.{EX, nodes, node, instruction, isEX, entry, latency, highest, chosen}
 use Rattle.model.specs.Cycles.{start, finish, ready, play}
-use Rattle.model.proofs.Latencies.{latency-some, latency-mono}
+use Rattle.model.proofs.Latencies.{stage-node, instruction-node, chosen-EX, latency-some, latency-mono}
 use Rattle.schedules.specs.inside.SumsBelow.{countBelow}
 use Rattle.schedules.specs.inside.Nets.{Net, Fits, Done, Sched, busy}
 use Rattle.schedules.specs.inside.Executions.{work, runsAt, Served, Fitting}
@@ -23,27 +22,12 @@ use Rattle.schedules.proofs.Counting.{count-same}
 use Rattle.schedules.proofs.BlockNet.{ready-done, done-ready, count-instructions}
 use Rattle.schedules.proofs.PlayEnds.{limitNet, play-limit, play-started, play-sched}
 
--- ---- the EX of instruction i
-
--- is an EX
-stage-EX : (i : ℕ) → node EX i % 5 ≡ EX
-stage-EX i = omega arith
-
--- of instruction i
-instruction-EX : (i : ℕ) → node EX i / 5 ≡ i
-instruction-EX i = omega arith
-
--- stands before that of j as i does before j
+-- the EX of i stands before that of j as i does before j
 order-EX : (i j : ℕ) → leb (node EX i) (node EX j) ≡ leb i j
 order-EX i j =
     same-test (leb (node EX i) (node EX j)) (leb i j)
     (λ t. le-leb i j (omega (arith, leb-true (node EX i) (node EX j) t)))
     (λ t. le-leb (node EX i) (node EX j) (omega (arith, leb-true i j t)))
-
--- has the latency of i
-chosen-EX : (b : Block) (l : List ℕ) (i : ℕ) → chosen b l (node EX i) ≡ getD l i 0
-unfolding chosen latency
-chosen-EX b l i = rw (instruction-EX i, stage-EX i) refl
 
 module _ (b : Block) (z : blockVerdict b ≡ (0, 0)) (cap : (i : ℕ) → entry b i .hi ≤ 255) (l : List ℕ) (L : Fitting b l) where
   -- ---- the latencies are inside their limits, and so are the times
@@ -101,7 +85,10 @@ module _ (b : Block) (z : blockVerdict b ≡ (0, 0)) (cap : (i : ℕ) → entry 
   -- an EX runs beside another as its instruction does
   busy-runs : (i t j : ℕ) → busy G (chosen b l) (start s) (node EX i) t (node EX j) ≡ runsAt (work b l) i t j
   unfolding busy runsAt
-  busy-runs i t j = rw (stage-EX j, instruction-EX j, instruction-EX i, chosen-EX b l j, order-EX i j) refl
+  busy-runs i t j =
+      let own = instruction-node EX j (omega arith) in
+      let beside = instruction-node EX i (omega arith) in
+      rw (stage-node EX j (omega arith), own, beside, chosen-EX b l j, order-EX i j) refl
 
   -- nothing else takes a unit
   off-EX : (i t u : ℕ) → isEX u ≡ false → busy G (chosen b l) (start s) (node EX i) t u ≡ false
@@ -120,7 +107,10 @@ module _ (b : Block) (z : blockVerdict b ≡ (0, 0)) (cap : (i : ℕ) → entry 
       record {
         ready = λ i h. ready-start (node EX i) (omega arith);
         waits = λ i t h r g.
-            rw (instruction-EX i, count-runs i t) at (sched .waits (node EX i) t (omega arith) (rw (stage-EX i) tt) g (ready-by (node EX i) t r));
-        room = λ i h. let v : node EX i < nodes b = omega arith in
-            rw (instruction-EX i, count-runs i (start s (node EX i))) at (sched .room (node EX i) v (rw (stage-EX i) tt) (started (node EX i) v));
+            let x : T (isEX (node EX i)) = rw (stage-node EX i (omega arith)) tt in
+            rw (instruction-node EX i (omega arith), count-runs i t) at (sched .waits (node EX i) t (omega arith) x g (ready-by (node EX i) t r));
+        room = λ i h.
+            let v : node EX i < nodes b = omega arith in
+            let x : T (isEX (node EX i)) = rw (stage-node EX i (omega arith)) tt in
+            rw (instruction-node EX i (omega arith), count-runs i (start s (node EX i))) at (sched .room (node EX i) v x (started (node EX i) v));
       }

@@ -1,29 +1,22 @@
 -- The model's ready time of each stage, edge by edge, where every latency but that of an EX is 1. Assumes nothing.
-use Prim.Native.Nat.{ℕ, zero, suc, _+_, _-_, _*_, _/_, _%_, _<_, max}
+use Prim.Native.Nat.{ℕ, zero, suc, _+_, _-_, _<_, max}
 use mathlib.Core.Path.{_≡_, refl, sym, ap, _∙_}
 use mathlib.Core.Bool.{_&&_}
 use mathlib.Core.List.{List, [], _∷_, _++_, map, map-append}
 use native.Mathlib.Omega.{arith}
 use native.Mathlib.Nat.{max-zero, zero-max, sub-zero}
-use lib.ListN.{getD}
 use lib.Dec.{leb, eqb, leb·zero}
-use borrow.Author.Tests.{ne-eqb, lt-ltb}
+use borrow.Author.Tests.{lt-ltb}
 use Rattle.lists.specs.Lists.{pick}
 use Rattle.lists.specs.Sums.{largest}
 use Rattle.lists.proofs.Bools.{by-test}
 use Rattle.lists.proofs.Sums.{largest-append}
 use Rattle.record.specs.declared.Block.{Block}
-use Rattle.model.specs.Nodes.{IF, ID, EX, WB, CM, node, instruction, entry, latency, lowest, highest, chosen, Edges, finishEdges, lastWriter, source, sources, orderEdges, into, finishInto, orderInto}
+use Rattle.model.specs.Nodes.{IF, ID, EX, WB, CM, node, instruction, entry, latency, Edges, finishEdges, lastWriter, source, sources, orderEdges, into, finishInto, orderInto}
 use Rattle.model.specs.Cycles.{start, finish, ready}
+use Rattle.model.proofs.Latencies.{stage-node, instruction-node}
 use Rattle.unpacked.specs.inside.ReadyByStage.{finishBack, startBack, finishSource, readyIF, readyID, readyEX, readyWB, readyCM}
 use Rattle.unpacked.specs.inside.UnpackedBlock.{code}
-
--- ---- the stage and the instruction of a node
-pub stage-node : (g i : ℕ) → g < 5 → (5 * i + g) % 5 ≡ g
-stage-node g i h = omega arith
-
-pub instruction-node : (g i : ℕ) → g < 5 → (5 * i + g) / 5 ≡ i
-instruction-node g i h = omega arith
 
 add-sub : (j : ℕ) → j + 1 - 1 ≡ j
 add-sub j = omega arith
@@ -49,41 +42,6 @@ largest-into f (e ∷ es) g i h =
     (by-test (eqb (e .to) g && leb (e .far) i)
     (λ t. rw t (ap (max (f (node (e .from) (i - e .far)))) (largest-into f es g i h)))
     (λ t. rw t (largest-into f es g i h ∙ sym (zero-max _))))
-
--- ---- the latencies of a block
-latency-one : (x g i : ℕ) → g < 5 → (g ≡ EX → ⊥) → latency x (node g i) ≡ 1
-unfolding latency
-latency-one x g i h off = rw (stage-node g i h, ne-eqb g EX off) refl
-
-latency-EX : (x i : ℕ) → latency x (node EX i) ≡ x
-unfolding latency
-latency-EX x i = rw (stage-node EX i (omega arith)) refl
-
-module _ (b : Block) where
-  pub lowest-one : (g i : ℕ) → g < 5 → (g ≡ EX → ⊥) → lowest b (node g i) ≡ 1
-  unfolding lowest
-  lowest-one g i = latency-one (entry b (instruction (node g i)) .lo) g i
-
-  pub highest-one : (g i : ℕ) → g < 5 → (g ≡ EX → ⊥) → highest b (node g i) ≡ 1
-  unfolding highest
-  highest-one g i = latency-one (entry b (instruction (node g i)) .hi) g i
-
-  pub lowest-EX : (i : ℕ) → lowest b (node EX i) ≡ entry b i .lo
-  unfolding lowest
-  lowest-EX i = rw (instruction-node EX i (omega arith)) (latency-EX (entry b i .lo) i)
-
-  pub highest-EX : (i : ℕ) → highest b (node EX i) ≡ entry b i .hi
-  unfolding highest
-  highest-EX i = rw (instruction-node EX i (omega arith)) (latency-EX (entry b i .hi) i)
-
-  -- those that a list chooses
-  pub chosen-one : (l : List ℕ) (g i : ℕ) → g < 5 → (g ≡ EX → ⊥) → chosen b l (node g i) ≡ 1
-  unfolding chosen
-  chosen-one l g i = latency-one (getD l (instruction (node g i)) 0) g i
-
-  pub chosen-EX : (l : List ℕ) (i : ℕ) → chosen b l (node EX i) ≡ getD l i 0
-  unfolding chosen
-  chosen-EX l i = rw (instruction-node EX i (omega arith)) (latency-EX (getD l i 0) i)
 
 -- ---- ready times
 module _ (b : Block) (lat : ℕ → ℕ) (one : (g i : ℕ) → g < 5 → (g ≡ EX → ⊥) → lat (node g i) ≡ 1) where

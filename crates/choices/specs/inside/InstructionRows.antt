@@ -25,7 +25,7 @@ pub record Leads (i : ℕ) (rows : List ℕ) : Type 0 where
   pub first : getD rows (4 * i + 2) 0 ≤ 60
   pub second : getD rows (4 * i + 3) 0 ≤ 60
 
--- instructions from c on and below m, some of 60, with their rows
+-- the instructions from c on and below m: one at least, all of 60, and their rows lead somewhere
 pub record Span (c m : ℕ) (rows : List ℕ) : Type 0 where
   pub some : c < m
   pub few : m ≤ 60

@@ -22,6 +22,10 @@ never = 65535
 abbrev pub fixed : List ℕ → ℕ → Bool
 fixed x i = not (eqb (getD x (i + 1) 0) never)
 
+-- four stores in a row
+abbrev pub fourStores : List ℕ → ℕ → ℕ → ℕ → ℕ → ℕ → ℕ → ℕ → ℕ → List ℕ
+fourStores x p u q v r w s y = set (set (set (set x p u) q v) r w) s y
+
 -- ---- before the play
 
 -- all units free: the number of unit z of kind k is 0, and `never` where there is no such unit; the rest is as it was
@@ -58,7 +62,7 @@ unfoldable pub decodedInto : Shape → ℕ → ℕ → List ℕ → List ℕ
 decodedInto h l i x =
     let f = fetchOf h i x in
     let d = decodedOf h i (f + l) x in
-    set (set (set (set x (176 + i) (f % 65536)) (268 + i) ((f + l) % 65536)) (360 + i) (d % 65536)) (64 + i) (d % 65536)
+    fourStores x (176 + i) (f % 65536) (268 + i) ((f + l) % 65536) (360 + i) (d % 65536) (64 + i) (d % 65536)
 
 -- CM(i) noted
 unfoldable pub committedInto : Shape → ℕ → List ℕ → List ℕ
@@ -86,23 +90,27 @@ keyOf rows x i = max (readyOf rows x i) (endOf rows x i)
 pub record Rising (m : ℕ) (x : List ℕ) : Type 0 where
   pub each : (i j : ℕ) → i ≤ j → j < m → getD x (360 + i) 0 ≤ getD x (64 + j) 0
 
--- of the instructions from c on and below m the one that can start first, and of several the first
-pub record Soonest (c m : ℕ) (rows x : List ℕ) (r : Choice) : Type 0 where
+-- one of the instructions from c on and below m, at the time from which on it can start
+pub record Among (c m : ℕ) (rows x : List ℕ) (r : Choice) : Type 0 where
   pub from : c ≤ r .at
   pub below : r .at < m
   pub most : r .start ≤ never
   pub start : r .start ≡ keyOf rows x (r .at)
-  pub least : Rising m x → (j : ℕ) → c ≤ j → j < m → (r .start ≤ keyOf rows x j) × (j < r .at → r .start < keyOf rows x j)
+
+-- none of them can start before it, nor at that time where it stands before it
+abbrev pub First : ℕ → ℕ → List ℕ → List ℕ → Choice → Type 0
+First c m rows x r = (j : ℕ) → c ≤ j → j < m → (r .start ≤ keyOf rows x j) × (j < r .at → r .start < keyOf rows x j)
+
+-- the one of them that can start first, and of several the first
+pub record Soonest (c m : ℕ) (rows x : List ℕ) (r : Choice) : Type 0 where
+  pub among : Among c m rows x r
+  pub first : Rising m x → First c m rows x r
 
 -- the choice among them: c where it is ready by its unit's time, else the one that can start first
 pub record Chooses (c m : ℕ) (rows x : List ℕ) (r : Choice) : Type 0 where
-  pub from : c ≤ r .at
-  pub below : r .at < m
-  pub most : r .start ≤ never
-  pub start : r .start ≡ keyOf rows x (r .at)
+  pub among : Among c m rows x r
   pub oldest : readyOf rows x c ≤ endOf rows x c → r .at ≡ c
-  pub least : endOf rows x c < readyOf rows x c → Rising m x → (j : ℕ) → c ≤ j → j < m
-      → (r .start ≤ keyOf rows x j) × (j < r .at → r .start < keyOf rows x j)
+  pub first : endOf rows x c < readyOf rows x c → Rising m x → First c m rows x r
 
 -- a unit of kind k held until e: of the four numbers of the kind the least goes
 unfoldable pub heldInto : ℕ → ℕ → List ℕ → List ℕ
@@ -110,11 +118,8 @@ heldInto k e x =
     let p = getD x (128 + 4 * k + 1) 0 in
     let q = getD x (128 + 4 * k + 2) 0 in
     let r = getD x (128 + 4 * k + 3) 0 in
-    set
-    (set
-    (set (set x (128 + 4 * k) (min p e % 65536)) (128 + 4 * k + 1) (min q (max p e) % 65536))
-    (128 + 4 * k + 2) (min r (max q (max p e)) % 65536))
-    (128 + 4 * k + 3) (max r (max q (max p e)) % 65536)
+    fourStores x (128 + 4 * k) (min p e % 65536) (128 + 4 * k + 1) (min q (max p e) % 65536)
+    (128 + 4 * k + 2) (min r (max q (max p e)) % 65536) (128 + 4 * k + 3) (max r (max q (max p e)) % 65536)
 
 -- EX(i), of kind k, started at t for l cycles
 unfoldable pub startedInto : ℕ → ℕ → ℕ → ℕ → List ℕ → List ℕ

@@ -1,6 +1,6 @@
--- What the notes of a play hold, s being the starts of the model's play: IF and ID of the instructions below m, CM of those
--- below c, and the EX starts that are fixed so far. Only promises of inside functions use these words. That they
--- hold before the play and that each step keeps them is in proofs/NotesFirst, proofs/NotesDecoded and proofs/NotesStarted.
+-- What the notes of a play hold: of the model's play IF and ID of the instructions below m, CM of those below c, and the EX
+-- starts that are fixed so far. Only promises of inside functions use these words. That they hold before the play and that
+-- each step keeps them is in proofs/NotesFirst, proofs/NotesDecoded and proofs/NotesStarted.
 use Prim.Native.Nat.{ℕ, _+_, _-_, _*_, _≤_, _<_, min}
 use mathlib.Core.Path.{_≡_}
 use mathlib.Core.Bool.{true, false}

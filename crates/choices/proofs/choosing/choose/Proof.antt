@@ -20,12 +20,10 @@ returns c =
     let a = c .before .before .before .args in
     let by : readyOf (a .rows .now) (a .x .now) (a .c) ≤ endOf (a .rows .now) (a .x .now) (a .c) = omega (arith, c .if1 .taken, ready .0, end .0) in
     record {
-      from = omega arith;
-      below = c .before .before .before .pre .some;
-      most = end .1;
-      start = omega (arith, end .0, by);
+      among =
+          record { from = omega arith; below = c .before .before .before .pre .some; most = end .1; start = omega (arith, end .0, by) };
       oldest = λ h. refl;
-      least = λ h. absurd (omega (arith, h, by));
+      first = λ h. absurd (omega (arith, h, by));
     }
 
 scan-requires : tie.Need-scan-requires
@@ -42,14 +40,7 @@ returns-2 c =
     let ready = c .before .before .before .ready-of .ensures in
     let a = c .before .before .before .before .args in
     let after : endOf (a .rows .now) (a .x .now) (a .c) < readyOf (a .rows .now) (a .x .now) (a .c) = omega (arith, c .before .if1 .left, ready .0, end .0) in
-    record {
-      from = scan .from;
-      below = scan .below;
-      most = scan .most;
-      start = scan .start;
-      oldest = λ h. absurd (omega (arith, h, after));
-      least = λ h. scan .least;
-    }
+    record { among = scan .among; oldest = λ h. absurd (omega (arith, h, after)); first = λ h. scan .first }
 
 pub choose-spec : {M : Type 1} → statement M
 choose-spec =

@@ -32,12 +32,10 @@ returns c =
     let t = loop .loop in
     let B = t .inv .2 in
     let over : t .best .start ≤ getD (a .x .now) (360 + t .j) 0 = omega (arith, decoded .wide .ensures .0, c .if1 .taken) in
+    let A = B .among in
     record {
-      from = B .from;
-      below = omega (arith, B .below, t .inv .1);
-      most = B .most;
-      start = B .start;
-      least = λ R. best-all (a .rows .now) (a .x .now) (a .c) (t .j) (a .m) (t .best) B R over;
+      among = record { from = A .from; below = omega (arith, A .below, t .inv .1); most = A .most; start = A .start };
+      first = λ R. best-all (a .rows .now) (a .x .now) (a .c) (t .j) (a .m) (t .best) B R over;
     }
 
 key-of-requires : tie.Need-key-of-requires Inv-loop μ-loop
@@ -63,12 +61,10 @@ returns-2 c =
     let t = c .before .loop in
     let B = t .inv .2 in
     let all : t .j ≡ c .before .before .args .m = omega (arith, c .loop-test .left, t .inv .1) in
+    let A = B .among in
     record {
-      from = B .from;
-      below = omega (arith, B .below, all);
-      most = B .most;
-      start = B .start;
-      least = λ R i l h. B .least i l (omega (arith, h, all));
+      among = record { from = A .from; below = omega (arith, A .below, all); most = A .most; start = A .start };
+      first = λ R i l h. B .first i l (omega (arith, h, all));
     }
 
 pub scan-spec : {M : Type 1} → statement M

@@ -57,7 +57,7 @@ choose-requires c κs = let s = loop-of (c .before) .before in record { some = s
 
 -- the instruction chosen is one of the decoded
 near : (c : tie.After-choose Inv-loop μ-loop) → c .choose .result .at < 60
-near c = omega (arith, c .choose .ensures .below, few (loop-of (test-of c) .before))
+near c = omega (arith, c .choose .ensures .among .below, few (loop-of (test-of c) .before))
 
 mul-index : tie.Need-mul-index Inv-loop μ-loop
 mul-index c = record { fits = omega (arith, near c) }
@@ -77,8 +77,8 @@ element-copy-out-small c = omega (arith, near (c .before .before))
 start-one-requires : tie.Need-start-one-requires Inv-loop μ-loop
 start-one-requires c κs =
     let v = choice-of c in
-    let L = led (loop-of (test-of v) .before) (v .choose .result .at) (v .choose .ensures .below) in
-    (near v, v .choose .ensures .most, omega (arith, c .before .before .before .index .ensures, L .kind), c .before .small .ensures .1)
+    let L = led (loop-of (test-of v) .before) (v .choose .result .at) (v .choose .ensures .among .below) in
+    (near v, v .choose .ensures .among .most, omega (arith, c .before .before .before .index .ensures, L .kind), c .before .small .ensures .1)
 
 -- ---- one start more
 module _ (c : tie.After-start-one Inv-loop μ-loop) where

@@ -6,7 +6,7 @@ use native.Mathlib.Omega.{arith}
 use Rattle.record.specs.declared.Block.{Block}
 use Rattle.model.specs.Nodes.{IF}
 use Rattle.unpacked.specs.inside.UnpackedBlock.{Shapes}
-use Rattle.unpacked.proofs.ReadyTimes.{chosen-one}
+use Rattle.model.proofs.Latencies.{chosen-one}
 use Rattle.choices.specs.inside.InstructionRows.{Playing}
 use Rattle.choices.specs.inside.PlayNotes.{Notes}
 use Rattle.choices.proofs.NotesDecoded.{notes-decoded}
