@@ -1,4 +1,4 @@
 pub mod Outcomes
 pub mod ResultRecord
+pub mod ResultCounts
 pub mod WindowTable
-pub mod TimesFront

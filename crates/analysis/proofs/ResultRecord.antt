@@ -1,50 +1,75 @@
 -- The result record, from lists that have the model's numbers where the block has nodes. Assumes nothing.
-use Prim.Native.Nat.{ℕ, _+_, _-_, _*_, _<_}
-use mathlib.Core.Path.{_≡_, refl}
-use mathlib.Core.List.{List, _++_}
+use Prim.Native.Nat.{ℕ, _*_, _+_, _-_, _<_}
+use mathlib.Core.Path.{_∙_, _≡_, ap, refl}
+use mathlib.Core.List.{_++_, List}
 use native.Mathlib.Omega.{arith}
-use lib.ListN.{length, getD, drop, replicate, length-append}
 use lib.Dec.{ltb}
+use lib.ListN.{drop, length, length-append}
 use borrow.Author.Tests.{ltb-true}
-use Rattle.lists.specs.Lists.{pick, joined, put}
 use Rattle.lists.specs.Bytes.{bytes}
+use Rattle.lists.specs.Lists.{joined, put}
 use Rattle.lists.proofs.Bools.{by-test}
-use Rattle.lists.proofs.JoinedPieces.{length-joined, joined-ext}
+use Rattle.lists.proofs.JoinedPieces.{joined-ext, length-joined}
 use Rattle.record.specs.Check.{checkOf}
+use Rattle.record.specs.Refusals.{blockVerdict}
 use Rattle.record.specs.declared.Block.{Block}
-use Rattle.record.proofs.AcceptedRanges.{Ranges}
+use Rattle.record.proofs.AcceptedRanges.{Ranges, ranges}
 use Rattle.record.proofs.OutputVerdicts.{put-entries, put-seal}
-use Rattle.model.specs.Nodes.{EX, CM, node, nodes, entry}
-use Rattle.model.specs.Cycles.{start, finish}
-use Rattle.model.specs.Rounds.{earliest, windows, bound, roundCount, pairCount, apartCount}
-use Rattle.model.proofs.Latencies.{highest-one, highest-EX}
-use Rattle.rounds.specs.inside.PairRows.{finishEX}
-use Rattle.analysis.specs.Result.{headOf, resultHead, fourOf, resultTimes, resultEntries, resultBody, result}
+use Rattle.model.specs.Cycles.{finish, start}
+use Rattle.model.specs.Nodes.{CM, EX, node, nodes}
+use Rattle.model.specs.Paths.{contending}
+use Rattle.model.specs.Rounds.{apartCount, bound, earliest, pairCount, roundCount, windows}
+use Rattle.model.proofs.Latencies.{highest-EX, highest-else}
+use Rattle.model.proofs.Limits.{round-limit}
+use Rattle.model.proofs.RoundsEnd.{windows-settled}
+use Rattle.unpacked.specs.declared.Shape.{Shape}
+use Rattle.unpacked.specs.inside.UnpackedBlock.{Columns, Unpacked}
+use Rattle.pairs.specs.inside.PairRows.{finishEX}
+use Rattle.rounds.specs.inside.BlockTimes.{TimesOf}
+use Rattle.analysis.specs.Result.{fourOf, headOf, result, resultBody, resultEntries, resultHead, resultTimes, summaryOf}
+use Rattle.analysis.specs.declared.Summary.{Summary}
+use Rattle.analysis.specs.inside.OutputSteps.{bodyFrom, resultFrom, timesAt}
 
--- the eight bytes of instruction i, as the code has them: his has the highest latencies
-abbrev pub timesOf : ℕ → List ℕ → List ℕ → List ℕ → ℕ → List ℕ
-timesOf n his early late i =
-    pick (ltb i n) (fourOf (start early (node EX i)) (start late (node EX i)) (finishEX his late i) (start late (node CM i) + 1)) (replicate 8 0)
-
-pub length-times : (n : ℕ) (his early late : List ℕ) (i : ℕ) → length (timesOf n his early late i) ≡ 8
-unfolding fourOf bytes
-length-times n his early late i = by-test (ltb i n) (λ t. rw t refl) (λ t. rw t refl)
+pub length-times : (n : ℕ) (u early late : List ℕ) (i : ℕ) → length (timesAt n u early late i) ≡ 8
+unfolding timesAt fourOf bytes
+length-times n u early late i = by-test (ltb i n) (λ t. rw t refl) (λ t. rw t refl)
 
 -- ---- what the lists make is the block's
 module _
-    (b : Block) (A : Ranges b) (his early late : List ℕ)
-    (hi : (i : ℕ) → i < b .n → getD his i 0 ≡ entry b i .hi)
-    (es : (v : ℕ) → v < nodes b → getD early v 0 ≡ getD (earliest b) v 0)
-    (ls : (v : ℕ) → v < nodes b → getD late v 0 ≡ getD (windows b .late) v 0) where
-  pub head-is : (rounds pairs apart : ℕ) → rounds ≡ roundCount b → pairs ≡ pairCount b → apart ≡ apartCount b
-      → headOf (b .n) (b .origin) (start late (5 * b .n - 1) + 1) (b .number) rounds pairs apart ≡ resultHead b
-  unfolding resultHead bound finish
-  head-is rounds pairs apart r p a =
-      let e : 5 * b .n - 1 ≡ node CM (b .n - 1) = omega (arith, A .n .0) in
-      rw (r, p, a, e, ls (node CM (b .n - 1)) (omega (arith, A .n .0)), highest-one b CM (b .n - 1) (omega arith) (λ q. omega arith)) refl
+    (b : Block) (h : Shape) (u early late : List ℕ) (U : Unpacked b h u)
+    (es : TimesOf b (earliest b) early) (ls : TimesOf b (windows b .late) late) where
+  A : Ranges b
+  A = ranges b (U .accepted)
 
-  pub entries-is : joined 60 (timesOf (b .n) his early late) ≡ resultEntries b
-  unfolding resultEntries resultTimes finishEX finish
+  -- the last node
+  last-node : 5 * h .n - 1 ≡ node CM (b .n - 1)
+  last-node = omega (arith, A .n .0, U .shape .n)
+
+  pub bound-is : start late (5 * h .n - 1) + 1 ≡ bound b
+  unfolding bound finish
+  bound-is =
+      let c = node CM (b .n - 1) in
+      rw (last-node, ls .at c (omega (arith, A .n .0)), highest-else b CM (b .n - 1) (omega arith) (λ q. omega arith) (λ q. omega arith)) refl
+
+  pub bound-small : start late (5 * h .n - 1) < 65535
+  unfolding finish
+  bound-small =
+      let v = node CM (b .n - 1) in
+      let l : v < nodes b = omega (arith, A .n .0) in
+      let e : start late (5 * h .n - 1) ≡ start (windows b .late) v = ap (start late) last-node ∙ ls .at v l in
+      let r = round-limit b A (U .shape .most) (contending b) (windows b .known) v l in
+      omega (arith, e, ap (λ (s : List ℕ). start s v) (windows-settled b .late), r, A .n .1)
+
+  pub summary-is : (s : Summary) → (s .n ≡ b .n) × (s .origin ≡ b .origin) × (s .bound ≡ start late (5 * h .n - 1) + 1) × (s .number ≡ b .number)
+      → (s .rounds ≡ roundCount b) × (s .pairs ≡ pairCount b) × (s .apart ≡ apartCount b) → s ≡ summaryOf b
+  unfolding summaryOf
+  summary-is s (n, o, f, k) (r, p, a) = rw (n, o, f ∙ bound-is, k, r, p, a) refl
+
+module _
+    (b : Block) (u early late : List ℕ) (z : blockVerdict b ≡ (0, 0)) (C : Columns b u)
+    (es : TimesOf b (earliest b) early) (ls : TimesOf b (windows b .late) late) where
+  entries-is : joined 60 (timesAt (b .n) u early late) ≡ resultEntries b
+  unfolding timesAt resultEntries resultTimes finishEX finish
   entries-is =
       joined-ext _ _ 60
       (λ i _.
@@ -53,34 +78,44 @@ module _
       let l : i < b .n = ltb-true i (b .n) t in
       rw (
         t,
-        es (node EX i) (omega arith),
-        ls (node EX i) (omega arith),
-        ls (node CM i) (omega arith),
-        hi i l,
+        es .at (node EX i) (omega arith),
+        ls .at (node EX i) (omega arith),
+        ls .at (node CM i) (omega arith),
+        C .high i l,
         highest-EX b i,
-        highest-one b CM i (omega arith) (λ q. omega arith),
+        highest-else b CM i (omega arith) (λ q. omega arith) (λ q. omega arith),
       )
       refl)
       (λ t. rw t refl))
 
+  pub result-is : resultFrom (summaryOf b) u early late ≡ result b
+  unfolding resultFrom bodyFrom result resultBody resultHead summaryOf
+  result-is = rw entries-is refl
+
 -- ---- the output piece by piece
-module _ (b : Block) (o : List ℕ) where
-  length-head : length (resultHead b) ≡ 28
-  unfolding resultHead headOf bytes
+module _ (s : Summary) (u early late o : List ℕ) where
+  length-head : length (headOf s) ≡ 28
+  unfolding headOf bytes
   length-head = refl
 
-  length-entries : length (resultEntries b) ≡ 480
-  unfolding resultEntries resultTimes fourOf bytes
-  length-entries = length-joined 8 _ (λ i. by-test (ltb i (b .n)) (λ t. rw t refl) (λ t. rw t refl)) 60
+  length-entries : length (joined 60 (timesAt (s .n) u early late)) ≡ 480
+  length-entries = length-joined 8 _ (length-times (s .n) u early late) 60
 
-  length-body : length (resultBody b) ≡ 508
-  unfolding resultBody
+  length-body : length (bodyFrom s u early late) ≡ 508
+  unfolding bodyFrom
   length-body = rw (length-append, length-head, length-entries) refl
 
-  pub put-body : put (resultHead b ++ drop 28 o) 28 (resultEntries b) ≡ resultBody b ++ drop 508 o
-  unfolding resultBody
-  put-body = put-entries (resultHead b) (resultEntries b) o length-head length-entries
+  put-body : put (headOf s ++ drop 28 o) 28 (joined 60 (timesAt (s .n) u early late)) ≡ bodyFrom s u early late ++ drop 508 o
+  unfolding bodyFrom
+  put-body = put-entries (headOf s) (joined 60 (timesAt (s .n) u early late)) o length-head length-entries
 
-  pub put-check : length o ≡ 512 → put (resultBody b ++ drop 508 o) 508 (bytes 4 (checkOf (resultBody b ++ drop 508 o))) ≡ result b
-  unfolding result
-  put-check l = put-seal (resultBody b) o length-body l
+  put-check : length o ≡ 512
+      → put (bodyFrom s u early late ++ drop 508 o) 508 (bytes 4 (checkOf (bodyFrom s u early late ++ drop 508 o))) ≡ resultFrom s u early late
+  unfolding resultFrom
+  put-check l = put-seal (bodyFrom s u early late) o length-body l
+
+  -- the header put, then the entries, then the check
+  pub put-made : (head with-head with-times : List ℕ) → length o ≡ 512 → head ≡ headOf s → with-head ≡ head ++ drop 28 o
+      → with-times ≡ put with-head 28 (joined 60 (timesAt (s .n) u early late))
+      → put with-times 508 (bytes 4 (checkOf with-times)) ≡ resultFrom s u early late
+  put-made head with-head with-times l h d e = rw (e, d, h, put-body) (put-check l)

@@ -1,2 +1,3 @@
 pub mod Result
 pub mod Promises
+pub mod inside

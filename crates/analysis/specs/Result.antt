@@ -1,5 +1,5 @@
 -- "Result record, 512 bytes", and what the two operations leave in their output.
-use Prim.Native.Nat.{ℕ, _*_}
+use Prim.Native.Nat.{ℕ}
 use mathlib.Core.List.{List, [], _∷_, _++_}
 use lib.ListN.{length, drop, replicate}
 use lib.Dec.{eqb, leb, ltb}
@@ -10,19 +10,32 @@ use Rattle.record.specs.Refusals.{Test, verdict, accepts, outputTest, blockTest
 use Rattle.record.specs.declared.Block.{Block}
 use Rattle.model.specs.Nodes.{EX, CM, node, highest}
 use Rattle.model.specs.Cycles.{start, finish}
-use Rattle.model.specs.Rounds.{earliest, windows, bound, roundCount, pairCount, apartCount, windowTable}
+use Rattle.model.specs.Rounds.{earliest, windows, bound, roundCount, pairCount, apartCount, windowNumbers, windowTable}
+use Rattle.analysis.specs.declared.Summary.{Summary}
+
+-- what an analysis says of a block beside its windows
+unfoldable pub summaryOf : Block → Summary
+summaryOf b = record {
+  n = b .n;
+  origin = b .origin;
+  bound = bound b;
+  number = b .number;
+  rounds = roundCount b;
+  pairs = pairCount b;
+  apart = apartCount b;
+}
 
 -- "Letters RES1; byte 4 n; 5 origin copied; 6–7 bound; 8–11 block number; 12–13 rounds; 14–15 contending pairs; 16–17
 -- pairs apart; 18–27 zero."
-unfoldable pub headOf : ℕ → ℕ → ℕ → ℕ → ℕ → ℕ → ℕ → List ℕ
-headOf n origin bound number rounds pairs apart =
+unfoldable pub headOf : Summary → List ℕ
+headOf s =
     ascii "RES1"
-    ++ (n ∷ origin
-    ∷ (bytes 2 bound ++ bytes 4 number ++ bytes 2 rounds ++ bytes 2 pairs ++ bytes 2 apart ++ replicate 10 0))
+    ++ (s .n ∷ s .origin
+    ∷ (bytes 2 (s .bound) ++ bytes 4 (s .number) ++ bytes 2 (s .rounds) ++ bytes 2 (s .pairs) ++ bytes 2 (s .apart) ++ replicate 10 0))
 
 -- the same of a block
 unfoldable pub resultHead : Block → List ℕ
-resultHead b = headOf (b .n) (b .origin) (bound b) (b .number) (roundCount b) (pairCount b) (apartCount b)
+resultHead b = headOf (summaryOf b)
 
 -- "four 16-bit numbers"
 unfoldable pub fourOf : ℕ → ℕ → ℕ → ℕ → List ℕ
@@ -55,7 +68,7 @@ analyseTests b o = blockTests b ++ (outputTest (eqb (length o) 512) ∷ [])
 
 -- the window table too: "at least 30 × n numbers for windows"
 unfoldable pub windowTests : Block → List ℕ → List Test
-windowTests b o = blockTests b ++ (outputTest (leb (30 * b .n) (length o)) ∷ [])
+windowTests b o = blockTests b ++ (outputTest (leb (windowNumbers b) (length o)) ∷ [])
 
 -- what the output of an analysis holds at the end: the result record, or at a refusal what it held
 unfoldable pub analysed : Block → List ℕ → List ℕ
@@ -63,4 +76,4 @@ analysed b o = pick (accepts (verdict (analyseTests b o))) (result b) o
 
 -- what the output of the window table holds at the end. "Numbers beyond those stay untouched."
 unfoldable pub tabled : Block → List ℕ → List ℕ
-tabled b o = pick (accepts (verdict (windowTests b o))) (windowTable b ++ drop (30 * b .n) o) o
+tabled b o = pick (accepts (verdict (windowTests b o))) (windowTable b ++ drop (windowNumbers b) o) o

@@ -1,70 +1,110 @@
-// The two operations: tests 4, 5 and 6, then the result record or the window table.
+// The two operations: tests 4, 5 and 6, then the result record or the window table; and what an analysis says beside the
+// windows. A block is unpacked once, and its columns go on from there.
 ghost use mathlib.Core.Path.{_≡_};
 ghost use mathlib.Core.List.{_++_};
-ghost use Prim.Native.Nat.{ℕ, _*_, _≤_, _<_};
-ghost use lib.ListN.{length, getD, drop};
+ghost use Prim.Native.Nat.{_+_, _-_, _*_, _≤_, _<_};
+ghost use lib.ListN.{length, drop};
 ghost use Rattle.record.specs.Refusals.{blockVerdict};
-ghost use Rattle.model.specs.Nodes.{nodes, entry};
-ghost use Rattle.model.specs.Rounds.{earliest, windows, roundCount, pairCount, apartCount, windowTable};
-ghost use Rattle.analysis.specs.Result.{result};
+ghost use Rattle.model.specs.Cycles.{start};
+ghost use Rattle.model.specs.Rounds.{windowNumbers, windowTable};
+ghost use Rattle.unpacked.specs.inside.UnpackedBlock.{Columns};
+ghost use Rattle.rounds.specs.inside.BlockTimes.{Unpacks};
+ghost use Rattle.analysis.specs.Result.{result, summaryOf};
 ghost use Rattle.analysis.specs.Promises.{Analyses, WritesWindows};
+ghost use Rattle.analysis.specs.inside.OutputSteps.{Analysed, Summarised};
+use crate::Summary;
 use crate::outputs::put_result;
 use crate::outputs::put_table;
 use record::Answer;
 use record::Block;
-use record::HI;
-use record::LO;
-use record::READS1;
-use record::READS2;
 use record::Reason;
 use rounds::Counts;
+use unpacked::Shape;
 
-// The earliest and the latest starts of a block, and its counts.
-fn times_into(b: Block, early: &mut [u16], late: &mut [u16]) -> Counts
-    requires { ⌜ (blockVerdict b ≡ (0, 0)) × (length (now early) ≡ 300) × (length (now late) ≡ 300) ⌝ }
-    ensures { λ r. ⌜ (r .rounds ≡ roundCount b) × (r .pairs ≡ pairCount b) × (r .apart ≡ apartCount b) × (r .rounds ≤ 3601) × (r .pairs ≤ 3600) × (r .apart ≤ 3600) ⌝ }
-    ensures { λ _. ⌜ ((v : ℕ) → v < nodes b → getD (now (early .exit)) v 0 ≡ getD (earliest b) v 0) × ((v : ℕ) → v < nodes b → getD (now (late .exit)) v 0 ≡ getD (windows b .late) v 0) ⌝ }
-    ensures { λ _. ⌜ ((i : ℕ) → entry b i .hi ≤ 255) ⌝ }
+// The earliest and the latest starts, and the counts.
+fn times_into(h: Shape, u: &[u8; 300], early: &mut [u16; 300], late: &mut [u16; 300]) -> Counts
+    requires { ⌜ Unpacks h (now u) × (length (now early) ≡ 300) × (length (now late) ≡ 300) ⌝ }
+    ensures { λ r. ⌜ Analysed h (now (u .entry)) (now (early .exit)) (now (late .exit)) r ⌝ }
+{
+    rounds::earliest_into(h, u, early);
+    rounds::refine(h, u, early, late)
+}
+
+// The bound: the latest finish of the last node of n instructions.
+fn bound_of(n: usize, late: &[u16; 300]) -> u16
+    requires { ⌜ (1 ≤ n) × (n ≤ 60) × (start (now late) (5 * n - 1) < 65535) ⌝ }
+    ensures { λ r. ⌜ r ≡ start (now (late .entry)) (5 * n - 1) + 1 ⌝ }
+{
+    late[5 * n - 1] + 1
+}
+
+// What an analysis says, from its parts.
+fn summary_from(n: u8, origin: u8, number: u32, bound: u16, counts: Counts) -> Summary
+    requires { ⌜ (counts .rounds ≤ 65535) × (counts .pairs ≤ 65535) × (counts .apart ≤ 65535) ⌝ }
+    ensures { λ r. ⌜ (r .n ≡ n) × (r .origin ≡ origin) × (r .bound ≡ bound) × (r .number ≡ number) ⌝ }
+    ensures { λ r. ⌜ (r .rounds ≡ counts .rounds) × (r .pairs ≡ counts .pairs) × (r .apart ≡ counts .apart) ⌝ }
+{
+    Summary {
+        n,
+        origin,
+        bound,
+        number,
+        rounds: counts.rounds as u16,
+        pairs: counts.pairs as u16,
+        apart: counts.apart as u16,
+    }
+}
+
+// The times of an accepted block whose columns are u, and what its analysis says beside its windows.
+fn summary_into(b: Block, u: &[u8; 300], early: &mut [u16; 300], late: &mut [u16; 300]) -> Summary
+    requires { ⌜ (blockVerdict b ≡ (0, 0)) × Columns b (now u) × (length (now early) ≡ 300) × (length (now late) ≡ 300) ⌝ }
+    ensures { λ r. ⌜ Summarised b (now (early .exit)) (now (late .exit)) r ⌝ }
 {
     let h = unpacked::shape_of(b);
-    let lo = unpacked::column(b, LO);
-    let his = unpacked::column(b, HI);
-    let s1 = unpacked::sources(b, READS1);
-    let s2 = unpacked::sources(b, READS2);
-    rounds::earliest_into(h, &lo, &s1, &s2, early);
-    rounds::refine(b, &his, &s1, &s2, early, late)
+    let counts = times_into(h, u, early, late);
+    let bound = bound_of(h.n, late);
+    summary_from(b.n, b.origin, b.number, bound, counts)
+}
+
+// What the analysis of an accepted block says beside its windows.
+pub fn summary_of(b: Block) -> Summary
+    requires { ⌜ blockVerdict b ≡ (0, 0) ⌝ }
+    ensures { λ r. ⌜ r ≡ summaryOf b ⌝ }
+{
+    let u = unpacked::columns_of(b);
+    let mut early = [0u16; 300];
+    let mut late = [0u16; 300];
+    summary_into(b, &u, &mut early, &mut late)
 }
 
 fn result_into(b: Block, out: &mut [u8])
     requires { ⌜ (blockVerdict b ≡ (0, 0)) × (length (now out) ≡ 512) ⌝ }
     ensures { λ _. ⌜ now (out .exit) ≡ result b ⌝ }
 {
+    let u = unpacked::columns_of(b);
     let mut early = [0u16; 300];
     let mut late = [0u16; 300];
-    let counts = times_into(b, &mut early, &mut late);
-    let his = unpacked::column(b, HI);
-    put_result(b, &his, &early, &late, counts, out);
+    let s = summary_into(b, &u, &mut early, &mut late);
+    put_result(s, &u, &early, &late, out);
 }
 
 fn table_into(b: Block, out: &mut [u16])
-    requires { ⌜ (blockVerdict b ≡ (0, 0)) × (30 * b .n ≤ length (now out)) ⌝ }
-    ensures { λ _. ⌜ now (out .exit) ≡ windowTable b ++ drop (30 * b .n) (now (out .entry)) ⌝ }
+    requires { ⌜ (blockVerdict b ≡ (0, 0)) × (windowNumbers b ≤ length (now out)) ⌝ }
+    ensures { λ _. ⌜ now (out .exit) ≡ windowTable b ++ drop (windowNumbers b) (now (out .entry)) ⌝ }
 {
+    let h = unpacked::shape_of(b);
+    let u = unpacked::columns_of(b);
     let mut early = [0u16; 300];
     let mut late = [0u16; 300];
-    times_into(b, &mut early, &mut late);
-    let lo = unpacked::column(b, LO);
-    let his = unpacked::column(b, HI);
-    let s1 = unpacked::sources(b, READS1);
-    let s2 = unpacked::sources(b, READS2);
-    put_table(b, &lo, &his, &s1, &s2, &early, &late, out);
+    times_into(h, &u, &mut early, &mut late);
+    put_table(h, &u, &early, &late, out);
 }
 
 // Writes the result record of a block to an output of 512 bytes.
 pub fn analyse(b: Block, out: &mut [u8]) -> Answer
     ensures { λ r. ⌜ Analyses b (now (out .entry)) r (now (out .exit)) ⌝ }
 {
-    let answer = record::block_answer(b);
+    let answer = writer::block_answer(b);
     match answer {
         Answer::Refused(_) => answer,
         Answer::Accepted => {
@@ -81,7 +121,7 @@ pub fn analyse(b: Block, out: &mut [u8]) -> Answer
 pub fn windows(b: Block, out: &mut [u16]) -> Answer
     ensures { λ r. ⌜ WritesWindows b (now (out .entry)) r (now (out .exit)) ⌝ }
 {
-    let answer = record::block_answer(b);
+    let answer = writer::block_answer(b);
     match answer {
         Answer::Refused(_) => answer,
         Answer::Accepted => {

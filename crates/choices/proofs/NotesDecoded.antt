@@ -12,7 +12,7 @@ use Rattle.lists.specs.Lists.{pick}
 use Rattle.lists.proofs.Bools.{by-test}
 use Rattle.record.specs.declared.Block.{Block}
 use Rattle.record.proofs.AcceptedRanges.{Ranges, ranges}
-use Rattle.model.specs.Nodes.{IF, ID, EX, WB, CM, node, chosen}
+use Rattle.model.specs.Nodes.{IF, ID, EX, WB, CM, node, fetch}
 use Rattle.model.specs.Cycles.{start}
 use Rattle.unpacked.specs.inside.ReadyByStage.{finishBack, startBack, readyIF, readyID, readyCM}
 use Rattle.unpacked.specs.inside.UnpackedBlock.{Shapes}
@@ -33,20 +33,20 @@ module _ (b : Block) (l rows : List ℕ) (P : Playing b l rows) (h : Shape) (H :
   s = starts b l
 
   -- finishes, so many places back
-  finish-back : (x : List ℕ) (o m g i k p : ℕ) → Times x o m (λ j. ends b l (node g j)) → g < 5 → (g ≡ EX → ⊥) → k ≤ 32 → (k ≤ i → i - k < m)
-      → p ≡ o + 32 + i - k → getD x p 0 ≡ finishBack s g k i
+  finish-back : (x : List ℕ) (o m g i k p : ℕ) → Times x o m (λ j. ends b l (node g j)) → g < 5 → (g ≡ EX → ⊥)
+      → k ≤ 32 → (k ≤ i → i - k < m) → p ≡ o + 32 + i - k → getD x p 0 ≡ finishBack s g 1 k i
   unfolding finishBack
   finish-back x o m g i k p L five ne small some e =
       times-back x o m (λ j. ends b l (node g j)) L i k p small some e
       ∙ ap (λ (y : ℕ). pick (leb k i) y 0) (ends-one b l rows P g (i - k) five ne)
 
   -- where a node takes one cycle, its finish by the finish of the one before it is its start by the start of that, and one
-  one-later : (g i a : ℕ) → max (a + 1) (finishBack s g 1 i) ≡ max a (startBack s g i) + 1
+  one-later : (g i a : ℕ) → max (a + 1) (finishBack s g 1 1 i) ≡ max a (startBack s g i) + 1
   unfolding finishBack startBack
   one-later g i a = by-test (leb 1 i) (λ t. rw t (omega arith)) (λ t. rw t (omega arith))
 
   module _ (c m : ℕ) (x : List ℕ) (N : Notes b l c m x) where
-    module _ (y : ℕ) (takes : y ≡ chosen b l (node IF m)) (some : m < b .n) (near : m < c + b .w) where
+    module _ (y : ℕ) (takes : y ≡ fetch) (some : m < b .n) (near : m < c + b .w) where
       fetch-is : fetchOf h m x ≡ start s (node IF m)
       unfolding fetchOf readyIF startBack
       fetch-is =
@@ -67,14 +67,14 @@ module _ (b : Block) (l rows : List ℕ) (P : Playing b l rows) (h : Shape) (H :
       decoded-is =
           rw (
             fetched-is,
-            ends-one b l rows P IF m (omega arith) (λ e. omega arith),
+            ends-fetch b l rows P m,
             finish-back x 420 c CM m (b .w) (452 + m - h .w) (N .off-EX .committed) (omega arith) (λ e. omega arith)
                 (omega (arith, A .w .1)) (λ k. omega arith) (omega (arith, H .w)),
             finish-back x 328 m ID m (b .d) (360 + m - h .d) (N .off-EX .decoded) (omega arith) (λ e. omega arith)
                 (omega (arith, A .d .1)) (λ k. omega (arith, A .d .0)) (omega (arith, H .d)),
             finish-back x 328 m ID m 1 (360 + m - 1) (N .off-EX .decoded) (omega arith) (λ e. omega arith) (omega arith) (λ k. omega arith) (omega arith),
           )
-          (one-later ID m (max (start s (node IF m) + 1) (max (finishBack s CM (b .w) m) (finishBack s ID (b .d) m)))
+          (one-later ID m (max (start s (node IF m) + fetch) (max (finishBack s CM 1 (b .w) m) (finishBack s ID 1 (b .d) m)))
           ∙ sym (ends-one b l rows P ID m (omega arith) (λ e. omega arith) ∙ ap (λ (y : ℕ). y + 1) (decode-start b l rows P m some)))
 
       -- IF AND ID OF THE NEXT INSTRUCTION, whose fetch takes y
@@ -84,7 +84,7 @@ module _ (b : Block) (l rows : List ℕ) (P : Playing b l rows) (h : Shape) (H :
           let F : ℕ = fetchOf h m x in
           let D : ℕ = decodedOf h m (F + y) x in
           let f : F % 65536 ≡ start s (node IF m)
-          = omega (arith, fetch-is, ends-one b l rows P IF m (omega arith) (λ e. omega arith), ends-most b l rows P IF m (omega arith) some) in
+          = omega (arith, fetch-is, ends-fetch b l rows P m, ends-most b l rows P IF m (omega arith) some) in
           let g : (F + y) % 65536 ≡ ends b l (node IF m)
           = omega (arith, fetched-is, ends-most b l rows P IF m (omega arith) some) in
           let d : D % 65536 ≡ ends b l (node ID m) = omega (arith, decoded-is, ends-most b l rows P ID m (omega arith) some) in
@@ -142,7 +142,7 @@ module _ (b : Block) (l rows : List ℕ) (P : Playing b l rows) (h : Shape) (H :
                 (omega (arith, A .c .1)) (λ k. omega (arith, A .c .0)) (omega (arith, H .c)),
             finish-back x 420 c CM c 1 (452 + c - 1) (N .off-EX .committed) (omega arith) (λ e. omega arith) (omega arith) (λ k. omega arith) (omega arith),
           )
-          (one-later CM c (max (start s (node WB c) + 1) (finishBack s CM (b .c) c))
+          (one-later CM c (max (start s (node WB c) + 1) (finishBack s CM 1 (b .c) c))
           ∙ sym (ends-one b l rows P CM c (omega arith) (λ e. omega arith) ∙ ap (λ (y : ℕ). y + 1) (commit-start b l rows P c few)))
 
       pub notes-committed : Notes b l (c + 1) m (committedInto h c x)

@@ -12,12 +12,12 @@ use lib.ListN.{length, getD, set, length-set}
 use lib.Seq.{getD-set-same, getD-set-other}
 use lib.Dec.{ltb, eqb}
 use borrow.Author.Tests.{eqb-true, eqb-false, eq-eqb, ne-eqb}
+use Rattle.lists.specs.Lists.{pick}
 use Rattle.lists.proofs.Bools.{by-test}
 use Rattle.record.specs.declared.Block.{Block}
 use Rattle.record.proofs.AcceptedRanges.{Ranges, ranges}
 use Rattle.model.specs.Nodes.{EX, WB, node, entry}
-use Rattle.model.specs.Cycles.{units}
-use Rattle.schedules.specs.inside.SumsBelow.{valueIf}
+use Rattle.model.specs.Cycles.{mostCycles, units}
 use Rattle.schedules.specs.inside.Executions.{Work, work, held, Fixes}
 use Rattle.schedules.proofs.Choosing.{front-more, held-more}
 use Rattle.choices.specs.inside.InstructionRows.{Playing}
@@ -60,7 +60,7 @@ module _ (b : Block) (l rows : List ℕ) (P : Playing b l rows) (c m : ℕ) (x :
   end-is : e ≡ W .start i + W .lat i
   end-is = omega (arith, F .start)
 
-  end-most : e ≤ 30780
+  end-most : e ≤ mostCycles
   end-most = omega (arith, end-is, ends-EX b l rows P i, ends-most b l rows P EX i (omega arith) few)
 
   -- ---- by index
@@ -142,7 +142,7 @@ module _ (b : Block) (l rows : List ℕ) (P : Playing b l rows) (c m : ℕ) (x :
     new-fourth = held-fourth x₁ k e long₁ four second third most end-small ∙ rw (at-q, at-r, at-u) refl
 
     -- as many more as finish after τ
-    held-then : (τ : ℕ) → held W (fixed x₂) k τ ≡ held W (fixed x) k τ + valueIf (ltb τ e) 1
+    held-then : (τ : ℕ) → held W (fixed x₂) k τ ≡ held W (fixed x) k τ + pick (ltb τ e) 1 0
     held-then τ =
         held-more W (fixed x) (fixed x₂) i few off now-fixed fixed-else k τ
         ∙ rw (eq-eqb (entry b i .kind) k (sym kind), ← end-is) refl
@@ -164,7 +164,7 @@ module _ (b : Block) (l rows : List ℕ) (P : Playing b l rows) (c m : ℕ) (x :
               ∙ (over-held τ p q r u e (4 - units b k + held W (fixed x) k τ) (S .first) (S .second) (S .third) (omega (arith, from))
               (sym (above-over x k τ) ∙ S .count τ h)
               ∙ ap (min 4)
-              (add-last (4 - units b k) (held W (fixed x) k τ) (valueIf (ltb τ e) 1)
+              (add-last (4 - units b k) (held W (fixed x) k τ) (pick (ltb τ e) 1 0)
               ∙ ap (λ (z : ℕ). 4 - units b k + z) (sym (held-then τ)))));
         }
 

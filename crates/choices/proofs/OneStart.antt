@@ -4,10 +4,10 @@ use mathlib.Core.Path.{_≡_, sym, ap, _∙_}
 use mathlib.Core.Bool.{Bool, true, false, not}
 use mathlib.Core.List.{List}
 use native.Mathlib.Omega.{arith}
-use lib.ListN.{getD}
+use lib.ListN.{length, getD}
+use Rattle.lists.specs.Lists.{pick, numbersWhere}
+use Rattle.lists.proofs.NumbersWhere.{length-but-one}
 use Rattle.record.specs.declared.Block.{Block}
-use Rattle.schedules.specs.inside.SumsBelow.{valueIf, countBelow}
-use Rattle.schedules.proofs.Counting.{count-one-more}
 use Rattle.choices.specs.declared.Choice.{Choice}
 use Rattle.choices.specs.inside.InstructionRows.{Playing}
 use Rattle.choices.specs.inside.NoteSteps.{fixed, endOf, keyOf, Chooses, startedInto}
@@ -20,15 +20,15 @@ abbrev waits : List ℕ → ℕ → Bool
 waits x i = not (fixed x i)
 
 abbrev pub left : ℕ → List ℕ → ℕ
-left m x = countBelow m (waits x)
+left m x = length (numbersWhere 0 m (waits x))
 
-left-less : (m i : ℕ) (x x′ : List ℕ) → i < m → fixed x i ≡ false → fixed x′ i ≡ true → ((j : ℕ) → j < m → (j ≡ i → ⊥) → fixed x′ j ≡ fixed x j)
-    → left m x′ < left m x
+left-less : (m i : ℕ) (x x′ : List ℕ) → i < m → fixed x i ≡ false → fixed x′ i ≡ true
+    → ((j : ℕ) → j < m → (j ≡ i → ⊥) → fixed x′ j ≡ fixed x j) → left m x′ < left m x
 left-less m i x x′ l off on same =
     omega (
       arith,
-      count-one-more m (waits x′) (waits x) i l (ap not on) (λ u g ne. ap not (sym (same u g ne))),
-      ap (λ (t : Bool). valueIf (not t) 1) off,
+      length-but-one (waits x) (waits x′) 0 i m (omega arith) l (ap not on) (λ u _ g ne. ap not (sym (same u g ne))),
+      ap (λ (t : Bool). pick {A = ℕ} (not t) 1 0) off,
     )
 
 module _ (b : Block) (l rows : List ℕ) (P : Playing b l rows) (c m : ℕ) (x : List ℕ) (N : Notes b l c m x)

@@ -7,12 +7,12 @@ use native.Mathlib.Omega.{arith}
 use lib.ListN.{getD}
 use borrow.Author.Tests.{ne-eqb, le-leb, lt-ltb}
 use Rattle.record.specs.declared.Block.{Block}
-use Rattle.model.specs.Nodes.{IF, ID, EX, WB, CM, node, entry, source, chosen}
-use Rattle.model.specs.Cycles.{start, finish, ready, play}
+use Rattle.model.specs.Nodes.{IF, ID, EX, WB, CM, node, entry, fetch, source, chosen}
+use Rattle.model.specs.Cycles.{mostCycles, start, finish, ready, play}
 use Rattle.schedules.proofs.PlayExecutions.{play-most, starts-ready}
 use Rattle.unpacked.specs.inside.ReadyByStage.{finishBack, startBack, finishSource, readyIF, readyID, readyEX, readyWB, readyCM}
 use Rattle.unpacked.specs.inside.UnpackedBlock.{code}
-use Rattle.model.proofs.Latencies.{stage-node, chosen-one, chosen-EX}
+use Rattle.model.proofs.Latencies.{stage-node, chosen-IF, chosen-one, chosen-else, chosen-EX}
 use Rattle.unpacked.proofs.ReadyTimes.{ready-IF, ready-ID, ready-EX, ready-WB, ready-CM}
 use Rattle.choices.specs.inside.InstructionRows.{Playing}
 use Rattle.choices.specs.inside.PlayNotes.{starts, ends}
@@ -27,38 +27,38 @@ module _ (b : Block) (l rows : List ℕ) (P : Playing b l rows) where
       starts-ready b (P .accepted) (P .cap) l (P .fit) (node g i) (omega arith) (rw (stage-node g i k) (ne-eqb g EX ne))
 
   pub fetch-start : (i : ℕ) → i < b .n → start s (node IF i) ≡ readyIF (b .q) (b .f) s i
-  fetch-start i h = off-EX IF i h (omega arith) (λ e. omega arith) ∙ ready-IF b (chosen b l) (chosen-one b l) s i
+  fetch-start i h = off-EX IF i h (omega arith) (λ e. omega arith) ∙ ready-IF b (chosen b l) (chosen-IF b l) (chosen-else b l) s i
 
   pub decode-start : (i : ℕ) → i < b .n → start s (node ID i) ≡ readyID (b .w) (b .d) s i
-  decode-start i h = off-EX ID i h (omega arith) (λ e. omega arith) ∙ ready-ID b (chosen b l) (chosen-one b l) s i
+  decode-start i h = off-EX ID i h (omega arith) (λ e. omega arith) ∙ ready-ID b (chosen b l) (chosen-IF b l) (chosen-else b l) s i
 
   write-start : (i : ℕ) → i < b .n → start s (node WB i) ≡ start s (node EX i) + getD l i 0
   unfolding readyWB
   write-start i h =
       off-EX WB i h (omega arith) (λ e. omega arith)
-      ∙ ready-WB b (chosen b l) (chosen-one b l) s i ∙ ap (λ (y : ℕ). start s (node EX i) + y) (chosen-EX b l i)
+      ∙ ready-WB b (chosen b l) (chosen-IF b l) (chosen-else b l) s i ∙ ap (λ (y : ℕ). start s (node EX i) + y) (chosen-EX b l i)
 
   pub commit-start : (i : ℕ) → i < b .n → start s (node CM i) ≡ readyCM (b .c) s i
-  commit-start i h = off-EX CM i h (omega arith) (λ e. omega arith) ∙ ready-CM b (chosen b l) (chosen-one b l) s i
+  commit-start i h = off-EX CM i h (omega arith) (λ e. omega arith) ∙ ready-CM b (chosen b l) (chosen-IF b l) (chosen-else b l) s i
 
   pub execute-ready : (i : ℕ)
       → ready b (chosen b l) s (node EX i) ≡ readyEX (code (source b (entry b i .reads1) i)) (code (source b (entry b i .reads2) i)) s i
-  execute-ready i = ready-EX b (chosen b l) (chosen-one b l) s i
+  execute-ready i = ready-EX b (chosen b l) (chosen-IF b l) (chosen-else b l) s i
 
   -- off EX a node takes one cycle
   pub ends-one : (g i : ℕ) → g < 5 → (g ≡ EX → ⊥) → ends b l (node g i) ≡ start s (node g i) + 1
   unfolding finish
   ends-one g i k ne = ap (λ (y : ℕ). start s (node g i) + y) (chosen-one b l g i k ne)
 
-  pub ends-fetch : (i : ℕ) → ends b l (node IF i) ≡ start s (node IF i) + chosen b l (node IF i)
+  pub ends-fetch : (i : ℕ) → ends b l (node IF i) ≡ start s (node IF i) + fetch
   unfolding finish
-  ends-fetch i = refl
+  ends-fetch i = ap (λ (y : ℕ). start s (node IF i) + y) (chosen-IF b l i)
 
   pub ends-EX : (i : ℕ) → ends b l (node EX i) ≡ start s (node EX i) + getD l i 0
   unfolding finish
   ends-EX i = ap (λ (y : ℕ). start s (node EX i) + y) (chosen-EX b l i)
 
-  pub ends-most : (g i : ℕ) → g < 5 → i < b .n → ends b l (node g i) ≤ 30780
+  pub ends-most : (g i : ℕ) → g < 5 → i < b .n → ends b l (node g i) ≤ mostCycles
   ends-most g i k h = play-most b (P .accepted) (P .cap) l (P .fit) (node g i) (omega arith)
 
   -- a WB starts when its EX has finished, and so finishes one cycle later
@@ -102,7 +102,7 @@ module _ (b : Block) (l rows : List ℕ) (P : Playing b l rows) where
   unfolding readyCM
   commit-later i h = omega (arith, commit-start i h, write-start i h)
 
-  decode-later : (j : ℕ) → j < b .n → finishBack s CM (b .w) j ≤ start s (node ID j)
+  decode-later : (j : ℕ) → j < b .n → finishBack s CM 1 (b .w) j ≤ start s (node ID j)
   unfolding readyID
   decode-later j h = omega (arith, decode-start j h)
 

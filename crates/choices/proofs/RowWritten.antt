@@ -1,6 +1,6 @@
 -- The row of an instruction all of whose times are noted is the play table's, and the rows together are the table. Assumes nothing.
 use Prim.Native.Nat.{ℕ, _+_, _-_, _*_, _%_, _<_, max}
-use mathlib.Core.Path.{_≡_, refl, sym, ap, _∙_}
+use mathlib.Core.Path.{_≡_, refl, sym, _∙_}
 use mathlib.Core.Bool.{true}
 use mathlib.Core.List.{List, [], _∷_, _++_}
 use native.Mathlib.Omega.{arith}
@@ -9,7 +9,7 @@ use Rattle.lists.specs.Lists.{put}
 use Rattle.lists.proofs.JoinedPieces.{piecesIn, pieces-none, pieces-more}
 use Rattle.record.specs.declared.Block.{Block}
 use Rattle.model.specs.Nodes.{IF, ID, EX, WB, CM, node, chosen}
-use Rattle.model.specs.Cycles.{start, ready, threeTimes, playTable}
+use Rattle.model.specs.Cycles.{start, ready, threeTimes, playPlace, playNumbers, playTable}
 use Rattle.unpacked.specs.inside.ReadyByStage.{readyEX}
 use Rattle.choices.specs.inside.InstructionRows.{Playing}
 use Rattle.choices.specs.inside.NoteSteps.{fixed, sourcesOf, Noted, rowInto}
@@ -36,12 +36,12 @@ module _ (b : Block) (l : List ℕ) where
   pub table-none : (o : List ℕ) → o ≡ tableIn o 0
   table-none o = pieces-none 3 0 three o
 
-  table-more : (o t xs : List ℕ) (v v′ p : ℕ) → v′ ≡ v + 1 → p ≡ 3 * v → xs ≡ three v → t ≡ tableIn o v → put t p xs ≡ tableIn o v′
-  table-more o t xs v v′ p e f g h = rw (e, g, h) (pieces-more 3 0 three o three-wide v p (omega arith) (omega arith))
+  table-more : (o t xs : List ℕ) (v v′ : ℕ) → v′ ≡ v + 1 → xs ≡ three v → t ≡ tableIn o v → put t (playPlace v 0) xs ≡ tableIn o v′
+  table-more o t xs v v′ e g h = rw (e, g, h) (pieces-more 3 0 three o three-wide v (playPlace v 0) (omega arith) (omega arith))
 
-  pub table-all : (o : List ℕ) → tableIn o (5 * b .n) ≡ playTable b (chosen b l) ++ drop (15 * b .n) o
+  pub table-all : (o : List ℕ) → tableIn o (5 * b .n) ≡ playTable b (chosen b l) ++ drop (playNumbers b) o
   unfolding playTable
-  table-all o = let e : 0 + 3 * (5 * b .n) ≡ 15 * b .n = omega arith in rw e refl
+  table-all o = let e : 0 + 3 * (5 * b .n) ≡ playNumbers b = omega arith in rw e refl
 
   module _ (rows : List ℕ) (P : Playing b l rows) (c m : ℕ) (x : List ℕ) (N : Notes b l (c + 1) m x) where
     abbrev s : List ℕ
@@ -81,10 +81,8 @@ module _ (b : Block) (l : List ℕ) where
     committed-at : getD x (452 + c) 0 ≡ ends b l (node CM c)
     committed-at = N .off-EX .committed .each c (omega arith)
 
-    three-fetch : getD x (176 + c) 0 ∷ getD x (176 + c) 0 ∷ getD x (268 + c) 0 ∷ [] ≡ three (5 * c)
-    three-fetch =
-        let q : node IF c ≡ 5 * c = omega arith in
-        same-three _ _ _ _ _ _ fetch-at fetch-at fetched-at ∙ (sym (three-off IF (omega arith) (λ e. omega arith)) ∙ ap three q)
+    three-fetch : getD x (176 + c) 0 ∷ getD x (176 + c) 0 ∷ getD x (268 + c) 0 ∷ [] ≡ three (node IF c)
+    three-fetch = same-three _ _ _ _ _ _ fetch-at fetch-at fetched-at ∙ sym (three-off IF (omega arith) (λ e. omega arith))
 
     ready-at : max (getD x (360 + c) 0) (sourcesOf rows x c) ≡ ready b (chosen b l) s (node EX c)
     unfolding readyEX
@@ -106,14 +104,15 @@ module _ (b : Block) (l : List ℕ) where
     pub row-table : (o t : List ℕ) → t ≡ tableIn o (5 * c) → rowInto rows x c t ≡ tableIn o (5 * (c + 1))
     unfolding rowInto
     row-table o t e =
-        table-more o _ _ (node CM c) (5 * (c + 1)) (15 * c + 12) (omega arith) (omega arith)
+        let first : node IF c ≡ 5 * c = omega arith in
+        table-more o _ _ (node CM c) (5 * (c + 1)) (omega arith)
         (three-one CM (getD x (452 + c) 0) (omega arith) (λ e. omega arith) committed-at)
-        (table-more o _ _ (node WB c) (node CM c) (15 * c + 9) (omega arith) (omega arith)
+        (table-more o _ _ (node WB c) (node CM c) (omega arith)
         (three-one WB (getD x (c + 1) 0) (omega arith) (λ e. omega arith) written-at)
-        (table-more o _ _ (node EX c) (node WB c) (15 * c + 6) (omega arith) (omega arith) three-execute
-        (table-more o _ _ (node ID c) (node EX c) (15 * c + 3) (omega arith) (omega arith)
+        (table-more o _ _ (node EX c) (node WB c) (omega arith) three-execute
+        (table-more o _ _ (node ID c) (node EX c) (omega arith)
         (three-one ID (getD x (360 + c) 0) (omega arith) (λ e. omega arith) decoded-at)
-        (table-more o t _ (5 * c) (node ID c) (15 * c) (omega arith) (omega arith) three-fetch e))))
+        (table-more o t _ (node IF c) (node ID c) (omega arith) three-fetch (rw first e)))))
 
     -- ---- what the code takes away is there
     pub row-noted : Noted rows x c

@@ -8,10 +8,10 @@ use native.Mathlib.Decide.{decLe}
 use lib.ListN.{getD}
 use lib.Dec.{ltb}
 use borrow.Author.Tests.{ltb-true, ltb-false}
+use Rattle.lists.specs.Lists.{pick}
 use Rattle.lists.proofs.Bools.{by-test}
 use Rattle.record.specs.declared.Block.{Block}
 use Rattle.model.specs.Cycles.{units}
-use Rattle.schedules.specs.inside.SumsBelow.{valueIf}
 use Rattle.choices.specs.inside.PlayNotes.{above}
 
 module _ (t : ℕ) where
@@ -60,7 +60,7 @@ module _ (t : ℕ) where
   as-many p q r u e w a b g = omega arith
 
   pub over-held : (p q r u e w : ℕ) → p ≤ q → q ≤ r → r ≤ u → p ≤ e → over p + over q + over r + over u ≡ min 4 w
-      → over q + over r + over u + over e ≡ min 4 (w + valueIf (ltb t e) 1)
+      → over q + over r + over u + over e ≡ min 4 (w + pick (ltb t e) 1 0)
   over-held p q r u e w a b c d g =
       by-test (ltb t e)
       (λ y. rw y (by-first (ltb-true t e y) (decLe p t)))

@@ -20,6 +20,9 @@ use unpacked::larger;
 use unpacked::time;
 use unpacked::wide;
 
+// How long a fetch takes.
+const FETCH_CYCLES: u32 = 1;
+
 // How many units of a kind there are.
 const UNITS: usize = 1;
 
@@ -99,7 +102,7 @@ pub fn decode_until(h: Shape, from: usize, end: usize, x: &mut [u16; 512])
     ensures { λ _. ⌜ DecodesUntil h from end (now (x .entry)) (now (x .exit)) ⌝ }
 {
     for i in from..end {
-        decode_one(h, 1, i, x);
+        decode_one(h, FETCH_CYCLES, i, x);
     }
 }
 

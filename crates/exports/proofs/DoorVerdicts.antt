@@ -28,7 +28,8 @@ use Rattle.record.specs.declared.Answer.the-variants.{Accepted, Refused}
 use Rattle.record.specs.declared.Block.{Block}
 use Rattle.record.specs.declared.Reading.{Reading}
 use Rattle.record.specs.declared.Reason.{Reason}
-use Rattle.record.proofs.Verdicts.{place-none, place-zero, place-firstFault, after-accepted, after-refused, read-place}
+use Rattle.record.specs.declared.Reason.the-variants.{Latency}
+use Rattle.record.proofs.Verdicts.{place-none, place-test, place-firstFault, after-accepted, after-refused, read-place}
 use Rattle.record.proofs.Answers.{number-above, refused-not}
 use Rattle.record.proofs.RoundTrips.{reading-fine, reading-accepted}
 use Rattle.play.specs.Refusals.{wrong, listTest, latencyTest, listTests}
@@ -40,12 +41,13 @@ none-place = place-none 65536 (omega arith)
 
 pub output-place : (right : Bool) (ts : List Test) → verdict ts .1 < 65536 → verdict (outputTest right ∷ ts) .1 < 65536
 unfolding outputTest
-output-place right ts h = place-zero 65536 6 _ ts (omega arith) h
+output-place right ts h = place-test 65536 (outputTest right) ts (omega arith) h
 
 pub list-place : (b : Block) (l : List ℕ) → b .n ≤ 255 → verdict (listTests b l) .1 < 65536
 unfolding listTests listTest latencyTest
 list-place b l h =
-    place-zero 65536 7 _ _ (omega arith) (place-firstFault 65536 8 0 (b .n) (wrong b l) [] (omega arith) none-place)
+    place-test 65536 (listTest b l) _ (omega arith)
+    (place-firstFault 65536 Latency 0 (b .n) (wrong b l) [] (λ k. refl) (omega arith) none-place)
 
 module _ (s : List ℕ) (r : Reading) (x : Reads s r) where
   pub reading-place : meaning (r .answer) .1 < 65536
@@ -70,11 +72,11 @@ module _ (s : List ℕ) (r : Reading) (x : Reads s r) where
       -- its block's own tests are passed, as the record's are
       after-record : verdict (readTests s ++ rest) ≡ verdict rest
       unfolding readTests lengthTest checkTest lettersTest headerTest entryTest
-      after-record = after-accepted (readTests s) rest refl (reading-fine s r x e)
+      after-record = after-accepted (readTests s) rest (reading-fine s r x e)
 
       after-block : verdict (blockTests (decoded s) ++ rest) ≡ verdict rest
       unfolding blockTests headerTest entryTest
-      after-block = after-accepted (blockTests (decoded s)) rest refl (reading-accepted s r x e)
+      after-block = after-accepted (blockTests (decoded s)) rest (reading-accepted s r x e)
 
       module _ (a : Answer) (h : meaning a ≡ verdict (blockTests (decoded s) ++ rest)) where
         pub answer-place : verdict rest .1 < 65536 → meaning a .1 < 65536

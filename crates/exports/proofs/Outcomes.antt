@@ -102,12 +102,12 @@ module _ {A : Type 0} (s : List ℕ) (more : List Test) (made o p : A) (u : Door
 
   both-parts : (readVerdict s ≡ (0, 0)) × (verdict more ≡ (0, 0))
   unfolding readTests lengthTest checkTest lettersTest headerTest entryTest
-  both-parts = both-accepted (readTests s) more refl no-refusal
+  both-parts = both-accepted (readTests s) more no-refusal
 
   -- the block's own tests are passed too
   block-passes : verdict (blockTests (decoded s) ++ more) ≡ (0, 0)
   unfolding blockTests headerTest entryTest
-  block-passes = after-accepted (blockTests (decoded s)) more refl (block-decoded s (u .bytes) (fine s (both-parts .0))) ∙ both-parts .1
+  block-passes = after-accepted (blockTests (decoded s)) more (block-decoded s (u .bytes) (fine s (both-parts .0))) ∙ both-parts .1
 
   is-made : p ≡ made
   is-made = u .output ∙ (rw no-refusal refl)

@@ -10,8 +10,8 @@ use Rattle.record.specs.Layout.{decoded, encoded}
 use Rattle.record.specs.Refusals.{Test, verdict, accepts, outputTest, readTests, readVerdict}
 use Rattle.record.specs.Promises.{ByteString}
 use Rattle.model.specs.Nodes.{chosen}
-use Rattle.model.specs.Cycles.{playLength, playTable}
-use Rattle.model.specs.Rounds.{windowTable}
+use Rattle.model.specs.Cycles.{playLength, playNumbers, playTable}
+use Rattle.model.specs.Rounds.{windowNumbers, windowTable}
 use Rattle.analysis.specs.Result.{result}
 use Rattle.play.specs.Refusals.{listTests}
 
@@ -37,11 +37,11 @@ recordRoom o = outputTest (eqb (length o) 512) ∷ []
 
 -- "at least 30 × n numbers for windows"
 abbrev pub windowsRoom : List ℕ → List ℕ → List Test
-windowsRoom s o = outputTest (leb (30 * decoded s .n) (length o)) ∷ []
+windowsRoom s o = outputTest (leb (windowNumbers (decoded s)) (length o)) ∷ []
 
 -- "and 15 × n for a play", and then its latency list
 abbrev pub playRoom : List ℕ → List ℕ → List ℕ → List Test
-playRoom s l o = outputTest (leb (15 * decoded s .n) (length o)) ∷ listTests (decoded s) l
+playRoom s l o = outputTest (leb (playNumbers (decoded s)) (length o)) ∷ listTests (decoded s) l
 
 -- "It reads and writes block records": writing the record of the block that s says
 abbrev pub RecodesBytes : List ℕ → List ℕ → ℕ → List ℕ → Type 0
@@ -53,11 +53,11 @@ AnalysesBytes s o = Door s (recordRoom o) (result (decoded s)) o
 
 -- "the window table is a second operation on the same value"; "Numbers beyond those stay untouched."
 abbrev pub WindowsBytes : List ℕ → List ℕ → ℕ → List ℕ → Type 0
-WindowsBytes s o = Door s (windowsRoom s o) (windowTable (decoded s) ++ drop (30 * decoded s .n) o) o
+WindowsBytes s o = Door s (windowsRoom s o) (windowTable (decoded s) ++ drop (windowNumbers (decoded s)) o) o
 
 -- "plays a block cycle by cycle under chosen latencies": the play table under the latencies l
 abbrev pub PlaysBytes : List ℕ → List ℕ → List ℕ → ℕ → List ℕ → Type 0
-PlaysBytes s l o = Door s (playRoom s l o) (playTable (decoded s) (chosen (decoded s) l) ++ drop (15 * decoded s .n) o) o
+PlaysBytes s l o = Door s (playRoom s l o) (playTable (decoded s) (chosen (decoded s) l) ++ drop (playNumbers (decoded s)) o) o
 
 -- "its length is CM(n−1)'s finish.", to one number, which was o: there is no output whose length could be wrong
 abbrev pub PlayLengthBytes : List ℕ → List ℕ → ℕ → ℕ → ℕ → Type 0

@@ -26,7 +26,7 @@ fn one_number(a: Answer) -> u32
 pub extern "C" fn bench_check(s: &[u8]) -> u32
     ensures { λ r. ⌜ ChecksBytes (now (s .entry)) r ⌝ }
 {
-    let r = record::read(s);
+    let r = reader::read(s);
     let answer = r.answer;
     one_number(answer)
 }
@@ -36,12 +36,12 @@ pub extern "C" fn bench_check(s: &[u8]) -> u32
 pub extern "C" fn bench_recode(s: &[u8], out: &mut [u8]) -> u32
     ensures { λ r. ⌜ RecodesBytes (now (s .entry)) (now (out .entry)) r (now (out .exit)) ⌝ }
 {
-    let r = record::read(s);
+    let r = reader::read(s);
     let answer = r.answer;
     let b = r.block;
     match answer {
         Answer::Refused(_) => one_number(answer),
-        Answer::Accepted => one_number(record::write(b, out)),
+        Answer::Accepted => one_number(writer::write(b, out)),
     }
 }
 
@@ -50,7 +50,7 @@ pub extern "C" fn bench_recode(s: &[u8], out: &mut [u8]) -> u32
 pub extern "C" fn bench_analyse(s: &[u8], out: &mut [u8]) -> u32
     ensures { λ r. ⌜ AnalysesBytes (now (s .entry)) (now (out .entry)) r (now (out .exit)) ⌝ }
 {
-    let r = record::read(s);
+    let r = reader::read(s);
     let answer = r.answer;
     let b = r.block;
     match answer {
@@ -64,7 +64,7 @@ pub extern "C" fn bench_analyse(s: &[u8], out: &mut [u8]) -> u32
 pub extern "C" fn bench_windows(s: &[u8], out: &mut [u16]) -> u32
     ensures { λ r. ⌜ WindowsBytes (now (s .entry)) (now (out .entry)) r (now (out .exit)) ⌝ }
 {
-    let r = record::read(s);
+    let r = reader::read(s);
     let answer = r.answer;
     let b = r.block;
     match answer {
@@ -78,7 +78,7 @@ pub extern "C" fn bench_windows(s: &[u8], out: &mut [u16]) -> u32
 pub extern "C" fn bench_play(s: &[u8], lat: &[u8], out: &mut [u16]) -> u32
     ensures { λ r. ⌜ PlaysBytes (now (s .entry)) (now (lat .entry)) (now (out .entry)) r (now (out .exit)) ⌝ }
 {
-    let r = record::read(s);
+    let r = reader::read(s);
     let answer = r.answer;
     let b = r.block;
     match answer {
@@ -92,7 +92,7 @@ pub extern "C" fn bench_play(s: &[u8], lat: &[u8], out: &mut [u16]) -> u32
 pub extern "C" fn bench_play_length(s: &[u8], lat: &[u8], out: &mut u16) -> u32
     ensures { λ r. ⌜ PlayLengthBytes (now (s .entry)) (now (lat .entry)) (now (out .entry)) r (now (out .exit)) ⌝ }
 {
-    let r = record::read(s);
+    let r = reader::read(s);
     let answer = r.answer;
     let b = r.block;
     match answer {

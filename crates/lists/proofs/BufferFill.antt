@@ -49,7 +49,3 @@ module _ {A : Type 0} (rule : List A → ℕ → A) (s₀ : List A) where
               ∙ sym (append-assoc (inOrder rule v) (rule (inOrder rule v) v ∷ []) (drop (suc v) s₀))
               ∙ ap (λ (y : ℕ). inOrder rule y ++ drop y s₀) (sym k);
         }
-
-  -- filled to its end
-  pub filled-end : (v w : ℕ) (s : List A) → v ≡ w → Filled rule s₀ v s → s ≡ inOrder rule w ++ drop w s₀
-  filled-end v w s e f = rw (← e) (f .is)

@@ -33,7 +33,8 @@ module _ {A : Type 0} (rule : List A → ℕ → A) where
   take-inOrder (suc n) k h =
       ⊎-elim
       (λ q. ap (λ (x : ℕ). take x (inOrder rule (suc n))) (q ∙ sym (length-inOrder (suc n))) ∙ take-length (inOrder rule (suc n)) ∙ ap (inOrder rule) (sym q))
-      (λ lt. take-append-le k (inOrder rule n) (rule (inOrder rule n) n ∷ []) (rw length-inOrder (le-of-suc-le-suc lt)) ∙ take-inOrder n k (le-of-suc-le-suc lt))
+      (λ lt. take-append-le k (inOrder rule n) (rule (inOrder rule n) n ∷ []) (rw length-inOrder (le-of-suc-le-suc lt))
+      ∙ take-inOrder n k (le-of-suc-le-suc lt))
       (eq-or-lt-of-le h)
 
   -- where the rule looks at what is before alone, the finished list keeps it

@@ -45,12 +45,22 @@ put-next xs ys o i e =
     = sym (drop-drop (length ys) i (xs ++ drop i o)) ∙ rw (drop-at xs (drop i o) i e) (drop-drop (length ys) i o) in
     rw (a, b) refl
 
+-- two parts put one behind the other
+pub put-two : {A : Type 0} (xs ys zs o : List A) (i : ℕ) → length xs ≡ i
+    → put (put (xs ++ drop i o) i ys) (i + length ys) zs ≡ put (xs ++ drop i o) i (ys ++ zs)
+put-two xs ys zs o i e =
+    let n : length (xs ++ ys) ≡ i + length ys = length-append xs ys ∙ rw e refl in
+    let m : i + length ys + length zs ≡ i + length (ys ++ zs) = omega (arith, length-append ys zs) in
+    rw (put-next xs ys o i e)
+    (put-next (xs ++ ys) zs o (i + length ys) n ∙ rw (append-assoc xs ys zs, m) (sym (put-next xs (ys ++ zs) o i e)))
+
 -- one element more of the front
 pub take-snoc : {A : Type 0} (xs : List A) (k : ℕ) (d : A) → k < length xs → take (k + 1) xs ≡ take k xs ++ (getD xs k d ∷ [])
 take-snoc xs k d h = rw add-one (take-suc xs k d h)
 
 -- a buffer whose first k elements are copied from xs, and one more
-pub copy-more : {A : Type 0} (xs o : List A) (k : ℕ) (d : A) → k < length xs → k < length o → set (take k xs ++ drop k o) k (getD xs k d) ≡ take (k + 1) xs ++ drop (k + 1) o
+pub copy-more : {A : Type 0} (xs o : List A) (k : ℕ) (d : A) → k < length xs → k < length o
+    → set (take k xs ++ drop k o) k (getD xs k d) ≡ take (k + 1) xs ++ drop (k + 1) o
 copy-more xs o k d h g =
     rw (
       add-one,

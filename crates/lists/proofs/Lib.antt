@@ -7,7 +7,6 @@ pub mod Members
 pub mod InOrder
 pub mod NumbersWhere
 pub mod Sums
-pub mod NumbersWhereGrowth
 pub mod Fronts
 pub mod Elements
 pub mod BufferFill

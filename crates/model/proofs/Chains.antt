@@ -1,10 +1,10 @@
--- A path leads from EX(i) to EX(j) exactly if j stands W or more after i, or a chain of registers leads there. So contenders
--- stand less than W apart. Assumes nothing.
+-- A path leads from EX(i) to EX(j) exactly if j stands W or more after i, or a chain of steps leads there. So contenders stand
+-- less than W apart. Assumes nothing.
 --
 -- Why: from EX(i) a path goes to WB(i) and CM(i). From CM(k), k not below i, it comes to ID(k + W) and the ID and IF after
--- that, so to no IF or ID of an instruction below i + W. Below i + W an EX is then entered from the WB of a writer alone,
--- and that WB from its own EX: such a path is a chain of registers. Back, a chain is a path, and from CM(i) the edge to
--- ID(i + W) and the order edges ID(k) to ID(k + 1) come to every ID from i + W on.
+-- that, so to no IF or ID of an instruction below i + W. Below i + W an EX is then entered by a step alone, from the WB of a
+-- writer, and that WB from its own EX: such a path is a chain. Back, a chain is a path, and from CM(i) the edge to ID(i + W)
+-- and the order edges ID(k) to ID(k + 1) come to every ID from i + W on.
 use Prim.Native.Nat.{ℕ, zero, suc, _+_, _-_, _*_, _/_, _%_, _≤_, _<_}
 use mathlib.Core.Path.{_≡_, refl, sym, ap, _∙_, subst, subst₂}
 use mathlib.Core.Bool.{Bool, true, false, not, _&&_, _||_, and-true}
@@ -17,26 +17,27 @@ use borrow.Author.Tests.{eqb-true, eq-eqb, ne-eqb, le-leb, leb-true, leb-false}
 use Rattle.lists.specs.Lists.{In, Every, tab}
 use Rattle.lists.specs.Sums.{any}
 use Rattle.lists.proofs.Bools.{by-test, or-cases, or-first, or-second, same-test}
-use Rattle.lists.proofs.Members.{in-split, in-left, in-right, _▸_, every, any-find, any-in, any-ext}
+use Rattle.lists.proofs.Members.{in-split, _▸_, every, any-find, any-in, any-ext}
 use Rattle.lists.proofs.TableByIndex.{length-tab, getD-tab, is-tab}
 use Rattle.lists.proofs.InOrder.{inOrder-keeps}
 use Rattle.record.specs.declared.Block.{Block}
 use Rattle.record.proofs.AcceptedRanges.{Ranges}
-use Rattle.model.specs.Nodes.{nodes, ID, EX, WB, CM, node, stage, instruction, entry, Edges, edges, finishEdges, orderEdges, sources, finishInto, orderInto}
+use Rattle.model.specs.Nodes.{ID, EX, WB, CM, node, stage, instruction, entry, Edges, finishEdges, orderEdges, finishInto, orderInto}
 use Rattle.model.specs.Paths.{edgesInto, Edge, Path, Pairs, has, paths, contend, contending}
 use Rattle.model.specs.Paths.Path.{edge, on}
-use Rattle.model.specs.inside.RegisterChains.{chains}
-use Rattle.model.proofs.Predecessors.{Leads, into-leads, Sourced, finish-cases, finish-on, source-on, edge-on, sources-before}
+use Rattle.model.specs.inside.RegisterChains.{links, chains}
+use Rattle.model.proofs.Predecessors.{Leads, into-leads, Sourced, finish-cases, finish-on, edge-on}
+use Rattle.model.proofs.Links.{path-then, finish-edge, order-edge, within, EX-WB, links-before, link-path, source-link}
 use Rattle.model.proofs.Contention.{path-up, paths-path, path-paths, contending-at, contending-contends}
 
--- a chain of registers: j reads what i was the last to write, or what one was to which a chain leads from i
+-- a chain: a step from i to j, or one from an instruction to which a chain leads from i
 pub data Chain (b : Block) : ℕ → ℕ → Type 0 where
-  reads : {i j : ℕ} → In i (sources b j) → Chain b i j
-  then-reads : {i a j : ℕ} → Chain b i a → In a (sources b j) → Chain b i j
+  step : {i j : ℕ} → In i (links b j) → Chain b i j
+  then-step : {i a j : ℕ} → Chain b i a → In a (links b j) → Chain b i j
 
 pub chain-up : (b : Block) (i j : ℕ) → Chain b i j → i < j
-chain-up b i j (reads h) = sources-before b j i h
-chain-up b i j (then-reads {a = a} c h) = omega (arith, chain-up b i a c, sources-before b j a h)
+chain-up b i j (step h) = links-before b i j h
+chain-up b i j (then-step {a = a} c h) = omega (arith, chain-up b i a c, links-before b a j h)
 
 -- ---- what can be said of stage g of instruction a at the end of a path from EX(i)
 abbrev Near : Block → ℕ → ℕ → Type 0
@@ -54,10 +55,10 @@ near-up b i a (inl e) = omega arith
 near-up b i a (inr (inl c)) = omega (arith, chain-up b i a c)
 near-up b i a (inr (inr h)) = omega arith
 
-near-reads : (b : Block) (i a j : ℕ) → Near b i a → In a (sources b j) → Near b i j
-near-reads b i a j (inl e) h = inr (inl (reads (subst (λ (x : ℕ). In x (sources b j)) (sym e) h)))
-near-reads b i a j (inr (inl c)) h = inr (inl (then-reads c h))
-near-reads b i a j (inr (inr k)) h = inr (inr (omega (arith, sources-before b j a h)))
+near-step : (b : Block) (i a j : ℕ) → Near b i a → In a (links b j) → Near b i j
+near-step b i a j (inl e) h = inr (inl (step (subst (λ (x : ℕ). In x (links b j)) (sym e) h)))
+near-step b i a j (inr (inl c)) h = inr (inl (then-step c h))
+near-step b i a j (inr (inr k)) h = inr (inr (omega (arith, links-before b a j h)))
 
 -- an edge by stage carries it on
 abbrev Carries : Block → ℕ → Edges → Type 0
@@ -85,7 +86,8 @@ module _ (b : Block) (i : ℕ) where
   unfolding orderEdges
   order-carries = (omega arith, λ a h. omega arith) ▸ (omega arith, λ a h. omega arith) ▸ (omega arith, λ a h. omega arith) ▸ tt
 
-  leads-carries : (es : List Edges) → Every (Carries b i) es → (u v : ℕ) → Leads es u v → Said b i (stage u) (instruction u) → Said b i (stage v) (instruction v)
+  leads-carries : (es : List Edges) → Every (Carries b i) es → (u v : ℕ) → Leads es u v
+      → Said b i (stage u) (instruction u) → Said b i (stage v) (instruction v)
   leads-carries es all u v l h =
       let c = every (Carries b i) es all (l .by) (l .listed) in
       let s : stage u ≡ l .by .from = omega (arith, l .from, c .0) in
@@ -97,7 +99,9 @@ module _ (b : Block) (i : ℕ) where
   source-carries u v s h =
       let g : stage u ≡ WB = omega (arith, s .from) in
       let a : instruction u ≡ s .by = omega (arith, s .from) in
-      subst (λ (x : ℕ). Said b i x (instruction v)) (sym (s .ex)) (near-reads b i (s .by) (instruction v) (subst₂ (λ (x y : ℕ). Said b i x y) g a h) (s .listed))
+      let near : Near b i (s .by) = subst₂ (λ (x y : ℕ). Said b i x y) g a h in
+      subst (λ (x : ℕ). Said b i x (instruction v)) (sym (s .ex))
+      (near-step b i (s .by) (instruction v) near (source-link b (s .by) (instruction v) (s .listed)))
 
   edge-carries : (u v : ℕ) → In u (edgesInto b v) → Said b i (stage u) (instruction u) → Said b i (stage v) (instruction v)
   unfolding edgesInto orderInto
@@ -121,7 +125,7 @@ module _ (b : Block) (i : ℕ) where
   path-carries u v e (edge h) = edge-carries u v (h .from) (EX-said u e)
   path-carries u v e (on {x = x} p h) = edge-carries x v (h .from) (path-carries u x e p)
 
--- ---- EX(i) REACHES EX(j) EXACTLY IF j IS W OR MORE AFTER i OR A CHAIN OF REGISTERS LEADS THERE
+-- ---- EX(i) REACHES EX(j) EXACTLY IF j IS W OR MORE AFTER i OR A CHAIN LEADS THERE
 module _ (b : Block) (i j : ℕ) where
   pub path-chain : i < j → Path b (node EX i) (node EX j) → Chain b i j ⊎ (i + b .w ≤ j)
   path-chain l p =
@@ -133,58 +137,37 @@ module _ (b : Block) (i j : ℕ) where
       not-itself (inl e) = absurd (omega arith)
       not-itself (inr x) = x
 
--- the edges that the way back takes, between instructions below n
+-- the edges that the way back takes
 module _ (b : Block) where
-  finish-edge : (u v : ℕ) → v < nodes b → In u (finishInto b v) → Edge b u v
-  unfolding edgesInto
-  finish-edge u v l h = record { there = l; from = in-left u (finishInto b v) (orderInto b v) h }
-
-  order-edge : (u v : ℕ) → v < nodes b → In u (orderInto b v) → Edge b u v
-  unfolding edgesInto
-  order-edge u v l h = record { there = l; from = in-right u (finishInto b v) (orderInto b v) h }
-
-  within : (g h i : ℕ) → h < 5 → i < b .n → In (edges g h 0) (finishEdges b) → Edge b (node g i) (node h i)
-  within g h i l k m =
-      let e : i + 0 ≡ i = omega arith in
-      finish-edge (node g i) (node h i) (omega arith) (subst (λ (x : ℕ). In (node g i) (finishInto b (node h x))) e (finish-on b g h 0 i l m))
-
   ID-EX : (i : ℕ) → i < b .n → Edge b (node ID i) (node EX i)
   unfolding finishEdges
-  ID-EX i k = within ID EX i (omega arith) k (inr (inl refl))
-
-  EX-WB : (i : ℕ) → i < b .n → Edge b (node EX i) (node WB i)
-  unfolding finishEdges
-  EX-WB i k = within EX WB i (omega arith) k (inr (inr (inl refl)))
+  ID-EX i k = within b ID EX i (omega arith) k (inr (inl refl))
 
   WB-CM : (i : ℕ) → i < b .n → Edge b (node WB i) (node CM i)
   unfolding finishEdges
-  WB-CM i k = within WB CM i (omega arith) k (inr (inr (inr (inl refl))))
+  WB-CM i k = within b WB CM i (omega arith) k (inr (inr (inr (inl refl))))
 
   CM-ID : (i : ℕ) → i + b .w < b .n → Edge b (node CM i) (node ID (i + b .w))
   unfolding finishEdges
   CM-ID i k =
-      finish-edge (node CM i) (node ID (i + b .w)) (omega arith)
+      finish-edge b (node CM i) (node ID (i + b .w)) (omega arith)
       (finish-on b CM ID (b .w) i (omega arith) (inr (inr (inr (inr (inr (inl refl)))))))
 
   ID-ID : (i : ℕ) → i + 1 < b .n → Edge b (node ID i) (node ID (i + 1))
   unfolding orderInto orderEdges
   ID-ID i k =
-      order-edge (node ID i) (node ID (i + 1)) (omega arith) (edge-on (orderEdges b) ID ID 1 i (omega arith) (inr (inl refl)))
-
-  WB-EX : (i j : ℕ) → j < b .n → In i (sources b j) → Edge b (node WB i) (node EX j)
-  WB-EX i j k h = finish-edge (node WB i) (node EX j) (omega arith) (source-on b i j h)
+      order-edge b (node ID i) (node ID (i + 1)) (omega arith) (edge-on (orderEdges b) ID ID 1 i (omega arith) (inr (inl refl)))
 
   pub chain-path : (i j : ℕ) → j < b .n → Chain b i j → Path b (node EX i) (node EX j)
-  chain-path i j k (reads h) = on (edge (EX-WB i (omega (arith, sources-before b j i h)))) (WB-EX i j k h)
-  chain-path i j k (then-reads {a = a} c h) =
-      let l : a < b .n = omega (arith, sources-before b j a h) in
-      on (on (chain-path i a l c) (EX-WB a l)) (WB-EX a j k h)
+  chain-path i j k (step h) = link-path b i j k h
+  chain-path i j k (then-step {a = a} c h) =
+      path-then b (node EX i) (node EX a) (node EX j) (chain-path i a (omega (arith, links-before b a j h)) c) (link-path b a j k h)
 
   to-ID : (k i : ℕ) → i + b .w + k < b .n → Path b (node EX i) (node ID (i + b .w + k))
   to-ID zero i l =
       let e : i + b .w ≡ i + b .w + 0 = omega arith in
       subst (λ (x : ℕ). Path b (node EX i) (node ID x)) e
-      (on (on (edge (EX-WB i (omega arith))) (WB-CM i (omega arith))) (CM-ID i (omega arith)))
+      (on (on (edge (EX-WB b i (omega arith))) (WB-CM i (omega arith))) (CM-ID i (omega arith)))
   to-ID (suc k) i l =
       let e : i + b .w + k + 1 ≡ i + b .w + suc k = omega arith in
       subst (λ (x : ℕ). Path b (node EX i) (node ID x)) e (on (to-ID k i (omega arith)) (ID-ID (i + b .w + k) (omega arith)))
@@ -201,34 +184,39 @@ module _ (b : Block) where
   from-i i a = eqb a i || has (chains b) a i
 
   rows-look : (s t : Pairs) (j : ℕ) → ((u : ℕ) → u < j → getD s u [] ≡ getD t u [])
-      → tab (b .n) (λ i. any (λ a. eqb a i || has s a i) (sources b j)) ≡ tab (b .n) (λ i. any (λ a. eqb a i || has t a i) (sources b j))
+      → tab (b .n) (λ i. any (λ a. eqb a i || has s a i) (links b j))
+      ≡ tab (b .n) (λ i. any (λ a. eqb a i || has t a i) (links b j))
   rows-look s t j same =
       is-tab (b .n) _ false _ (length-tab (b .n) _)
       (λ i l. getD-tab (b .n) _ i false l
-      ∙ any-ext (λ a. eqb a i || has s a i) (λ a. eqb a i || has t a i) (sources b j)
-      (λ a h. ap (λ (r : List Bool). eqb a i || getD r i false) (same a (sources-before b j a h))))
+      ∙ any-ext (λ a. eqb a i || has s a i) (λ a. eqb a i || has t a i) (links b j)
+      (λ a h. ap (λ (r : List Bool). eqb a i || getD r i false) (same a (links-before b a j h))))
 
-  pub chains-is : (i j : ℕ) → i < b .n → j < b .n → has (chains b) j i ≡ any (from-i i) (sources b j)
+  pub chains-is : (i j : ℕ) → i < b .n → j < b .n → has (chains b) j i ≡ any (from-i i) (links b j)
   unfolding chains
   chains-is i j hi hj =
       ap (λ (r : List Bool). getD r i false)
-      (inOrder-keeps (λ before k. tab (b .n) (λ x. any (λ a. eqb a x || has before a x) (sources b k))) [] rows-look (b .n) j hj)
+      (inOrder-keeps (λ before k. tab (b .n) (λ x. any (λ a. eqb a x || has before a x) (links b k))) [] rows-look (b .n) j hj)
       ∙ getD-tab (b .n) _ i false hi
 
   pub chain-chains : (i j : ℕ) → i < b .n → j < b .n → Chain b i j → has (chains b) j i ≡ true
-  chain-chains i j hi hj (reads h) = chains-is i j hi hj ∙ any-in (from-i i) (sources b j) i h (or-first (eqb i i) _ (eq-eqb i i refl))
-  chain-chains i j hi hj (then-reads {a = a} c h) =
-      chains-is i j hi hj ∙ any-in (from-i i) (sources b j) a h (or-second (eqb a i) _ (chain-chains i a hi (omega (arith, sources-before b j a h)) c))
+  chain-chains i j hi hj (step h) =
+      chains-is i j hi hj ∙ any-in (from-i i) (links b j) i h (or-first (eqb i i) _ (eq-eqb i i refl))
+  chain-chains i j hi hj (then-step {a = a} c h) =
+      chains-is i j hi hj
+      ∙ any-in (from-i i) (links b j) a h (or-second (eqb a i) _ (chain-chains i a hi (omega (arith, links-before b a j h)) c))
 
   chains-below : (k i j : ℕ) → j < k → i < b .n → j < b .n → has (chains b) j i ≡ true → Chain b i j
   chains-below zero i j l hi hj t = absurd (omega arith)
   chains-below (suc k) i j l hi hj t =
-      let r = any-find (from-i i) (sources b j) (sym (chains-is i j hi hj) ∙ t) in
-      by-source (r .0) (r .1) (or-cases (eqb (r .0) i) (has (chains b) (r .0) i) (r .2)) (λ a o. chains-below k i a (omega arith) hi (omega arith))
+      let r = any-find (from-i i) (links b j) (sym (chains-is i j hi hj) ∙ t) in
+      by-link (r .0) (r .1) (or-cases (eqb (r .0) i) (has (chains b) (r .0) i) (r .2))
+      (λ a o. chains-below k i a (omega arith) hi (omega arith))
     where
-      by-source : (a : ℕ) → In a (sources b j) → (eqb a i ≡ true) ⊎ (has (chains b) a i ≡ true) → ((x : ℕ) → x < j → has (chains b) x i ≡ true → Chain b i x) → Chain b i j
-      by-source a h (inl e) ih = reads (subst (λ (x : ℕ). In x (sources b j)) (eqb-true a i e) h)
-      by-source a h (inr e) ih = then-reads (ih a (sources-before b j a h) e) h
+      by-link : (a : ℕ) → In a (links b j) → (eqb a i ≡ true) ⊎ (has (chains b) a i ≡ true)
+          → ((x : ℕ) → x < j → has (chains b) x i ≡ true → Chain b i x) → Chain b i j
+      by-link a h (inl e) ih = step (subst (λ (x : ℕ). In x (links b j)) (eqb-true a i e) h)
+      by-link a h (inr e) ih = then-step (ih a (links-before b a j h) e) h
 
   pub chains-chain : (i j : ℕ) → i < b .n → j < b .n → has (chains b) j i ≡ true → Chain b i j
   chains-chain i j hi hj t = chains-below (suc j) i j (omega arith) hi hj t

@@ -30,7 +30,9 @@ module _ (b : Block) (A : Ranges b) (u : ℕ) where
   unfolding reached
   reached-is =
       inOrder-keeps (λ before v. any (λ p. eqb p u || getD before p false) (edgesInto b v)) false
-      (λ s t v same. any-ext (λ p. eqb p u || getD s p false) (λ p. eqb p u || getD t p false) (edgesInto b v) (λ p i. ap (λ (x : Bool). eqb p u || x) (same p (edges-below b A p v i))))
+      (λ s t v same.
+      any-ext (λ p. eqb p u || getD s p false) (λ p. eqb p u || getD t p false) (edgesInto b v)
+      (λ p i. ap (λ (x : Bool). eqb p u || x) (same p (edges-below b A p v i))))
       (nodes b)
 
   path-if-below : (v : ℕ) → v < nodes b → ((p : ℕ) → p < v → getD (reached b u) p false ≡ true → Path b u p) → getD (reached b u) v false ≡ true → Path b u v
@@ -97,7 +99,8 @@ pub contending-even : (b : Block) (i j : ℕ) → i < b .n → j < b .n → has 
 unfolding contend
 contending-even b i j hi hj =
     contending-at b i j hi hj
-    ∙ rw (eqb-even i j, eqb-even (entry b i .kind) (entry b j .kind)) (and-swap (not (eqb j i) && eqb (entry b j .kind) (entry b i .kind)) (not (has (paths b) i j)) (not (has (paths b) j i)))
+    ∙ rw (eqb-even i j, eqb-even (entry b i .kind) (entry b j .kind))
+    (and-swap (not (eqb j i) && eqb (entry b j .kind) (entry b i .kind)) (not (has (paths b) i j)) (not (has (paths b) j i)))
     ∙ sym (contending-at b j i hj hi)
 
 -- THE TABLE HAS EXACTLY THE PAIRS THAT CONTEND
@@ -120,7 +123,9 @@ module _ (b : Block) (A : Ranges b) (i j : ℕ) where
         two = λ e. false≢true (sym (ap not (eq-eqb i j e)) ∙ and-left (not (eqb i j)) _ r);
         kinds = eqb-true (entry b i .kind) (entry b j .kind) (and-right (not (eqb i j)) _ r);
         no-path = λ p. false≢true (sym (ap not (path-paths b A i j hi hj p)) ∙ and-right (not (eqb i j) && eqb (entry b i .kind) (entry b j .kind)) _ s);
-        no-path-back = λ p. false≢true (sym (ap not (path-paths b A j i hj hi p)) ∙ and-right (not (eqb i j) && eqb (entry b i .kind) (entry b j .kind) && not (has (paths b) i j)) _ k);
+        no-path-back = λ p. false≢true
+            (sym (ap not (path-paths b A j i hj hi p))
+            ∙ and-right (not (eqb i j) && eqb (entry b i .kind) (entry b j .kind) && not (has (paths b) i j)) _ k);
       }
 
   unmarked : (x y : ℕ) (hx : x < b .n) (hy : y < b .n) → (Path b (node EX x) (node EX y) → ⊥) → not (has (paths b) x y) ≡ true
@@ -140,7 +145,8 @@ module _ (b : Block) (A : Ranges b) (i j : ℕ) where
 
 module _ (b : Block) (A : Ranges b) (i j : ℕ) (hi : i < b .n) (hj : j < b .n) where
   -- SO TWO EX OF ONE KIND CONTEND, OR A PATH LEADS FROM ONE TO THE OTHER
-  pub contend-or-path : (i ≡ j → ⊥) → entry b i .kind ≡ entry b j .kind → (has (contending b) i j ≡ true) ⊎ (Path b (node EX i) (node EX j) ⊎ Path b (node EX j) (node EX i))
+  pub contend-or-path : (i ≡ j → ⊥) → entry b i .kind ≡ entry b j .kind
+      → (has (contending b) i j ≡ true) ⊎ (Path b (node EX i) (node EX j) ⊎ Path b (node EX j) (node EX i))
   unfolding contend
   contend-or-path two kinds =
       by-test (has (paths b) i j) (λ t. inr (inl (paths-path b A i j hi hj t)))

@@ -13,7 +13,7 @@ use Rattle.record.specs.declared.Block.{Block}
 use Rattle.record.specs.declared.Entry.{Entry}
 use Rattle.model.specs.Nodes.{IF, node, latency, lowest, highest, chosen, finishEdges, lastWriter, source, sources, orderEdges, into, finishInto, orderInto}
 use Rattle.model.specs.Paths.{edgesInto, Path, reached, pairs, count, paths, contend, contending}
-use Rattle.model.specs.Cycles.{State, notStarted, started, unfit, finish, ready, runs, units, free, begins, turns, cycle, firstState, allStarted, playOn, play, playLength, threeTimes, playTable}
+use Rattle.model.specs.Cycles.{State, mostCycles, lastCycle, notStarted, started, unfit, finish, ready, runs, units, free, begins, turns, cycle, firstState, allStarted, playOn, play, playLength, threeTimes, playTable}
 use Rattle.model.specs.Rounds.{earliest, R, rival, latestEX, latestStart, round, apart, new, roundsFrom, pairCount, windows, roundCount, apartCount, bound, windowTable}
 use Rattle.model.specs.Blocks.{blockA, blockB, blockE}
 use Rattle.model.specs.Worked.{summary}
@@ -99,12 +99,12 @@ pub none-there : started (set fresh 0 0) 300 ≡ false
 unfolding started
 none-there = refl
 
--- nothing started, in any cycle up to 30,779
-pub fresh-fit : unfit blockA (state 30779 fresh) ≡ false
+-- nothing started, in any cycle up to the last
+pub fresh-fit : unfit blockA (state lastCycle fresh) ≡ false
 unfolding unfit started exists least leastFrom blockA
 fresh-fit = refl
 
-pub late-unfit : unfit blockA (state 30780 fresh) ≡ true
+pub late-unfit : unfit blockA (state mostCycles fresh) ≡ true
 unfolding unfit started exists least leastFrom blockA
 late-unfit = refl
 
@@ -126,3 +126,9 @@ start-beyond = refl
 pub first-cycle : cycle blockE (chosen blockE (1 ∷ 4 ∷ 4 ∷ 12 ∷ [])) firstState ≡ state 1 (set fresh 0 0)
 unfolding numbersWhere numbersWhereFrom all latency chosen finishEdges lastWriter source sources orderEdges into finishInto orderInto started finish runs units free begins turns cycle firstState blockE
 first-cycle = refl
+
+-- ---- the printed limits
+
+-- "no time exceeds 513 × n, so 30,780", "cycle number above 30,779"
+pub limits-printed : (mostCycles ≡ 30780) × (lastCycle ≡ 30779)
+limits-printed = (refl, refl)

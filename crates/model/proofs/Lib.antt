@@ -3,6 +3,7 @@ pub mod Examples
 pub mod Predecessors
 pub mod PairSets
 pub mod Contention
+pub mod Links
 pub mod Chains
 pub mod TimesInOrder
 pub mod RoundsEnd

@@ -5,11 +5,11 @@ use mathlib.Core.Bool.{Bool, false, true, false≢true}
 use mathlib.Core.List.{List, [], _∷_}
 use native.Mathlib.Omega.{arith}
 use lib.ListN.{length, getD, List·getD-eq-default}
-use Rattle.lists.specs.Lists.{In, tab, numbersWhere}
+use Rattle.lists.specs.Lists.{In, pick, tab, numbersWhere}
 use Rattle.lists.proofs.Bools.{by-test}
 use Rattle.lists.proofs.TableByIndex.{getD-tab, length-tab}
-use Rattle.lists.proofs.NumbersWhere.{oneIf, numbersWhere-parted, sum-parted, sum-one}
-use Rattle.lists.proofs.NumbersWhereGrowth.{in-numbersWhere}
+use Rattle.lists.proofs.NumbersWhere.{numbersWhere-parted, in-numbersWhere}
+use Rattle.lists.proofs.Sums.{sum-parted, sum-one}
 use Rattle.model.specs.Paths.{has, pairs, count}
 use lib.Dec.{ltb}
 use borrow.Author.Tests.{ltb-true, ltb-false}
@@ -25,7 +25,8 @@ has-below n p i j t = by-test (ltb i n) (λ e. in-row (ltb-true i n e)) (λ e. a
   where
     none-after : n ≤ i → ⊥
     none-after l =
-        let r : getD (tab n (λ k. tab n (p k))) i [] ≡ [] = List·getD-eq-default (tab n (λ k. tab n (p k))) [] (omega (arith, length-tab n (λ k. tab n (p k)))) in
+        let r : getD (tab n (λ k. tab n (p k))) i [] ≡ []
+        = List·getD-eq-default (tab n (λ k. tab n (p k))) [] (omega (arith, length-tab n (λ k. tab n (p k)))) in
         false≢true (sym (ap (λ (x : List Bool). getD x j false) r) ∙ t)
 
     in-row : i < n → (i < n) × (j < n)
@@ -36,7 +37,7 @@ has-below n p i j t = by-test (ltb i n) (λ e. in-row (ltb-true i n e)) (λ e. a
         let z : getD (tab n (p i)) j false ≡ false = List·getD-eq-default (tab n (p i)) false (omega (arith, length-tab n (p i), ltb-false j n e)) in
         absurd (false≢true (sym z ∙ sym (ap (λ (x : List Bool). getD x j false) r) ∙ t)))
 
-pub count-parted : (n : ℕ) (p q r : ℕ → ℕ → Bool) → ((i j : ℕ) → i < j → j < n → oneIf (p i j) ≡ oneIf (q i j) + oneIf (r i j))
+pub count-parted : (n : ℕ) (p q r : ℕ → ℕ → Bool) → ((i j : ℕ) → i < j → j < n → pick (p i j) 1 0 ≡ pick (q i j) 1 0 + pick (r i j) 1 0)
     → count n p ≡ count n q + count n r
 unfolding count
 count-parted n p q r h =
@@ -47,7 +48,7 @@ count-none n = let e = count-parted n (λ i j. false) (λ i j. false) (λ i j. f
 
 pub count-ext : (n : ℕ) (p q : ℕ → ℕ → Bool) → ((i j : ℕ) → i < j → j < n → p i j ≡ q i j) → count n p ≡ count n q
 count-ext n p q h =
-    let e = count-parted n p q (λ i j. false) (λ i j l m. let s = ap oneIf (h i j l m) in omega arith) in
+    let e = count-parted n p q (λ i j. false) (λ i j l m. let s = ap (λ (t : Bool). pick {A = ℕ} t 1 0) (h i j l m) in omega arith) in
     let z = count-none n in
     omega arith
 

@@ -37,7 +37,9 @@ pub into-leads : (es : List Edges) (u v : ℕ) → In u (into es v) → Leads es
 unfolding into
 into-leads [] u v h = absurd h
 into-leads (e ∷ es) u v h =
-    by-row (in-pick u (eqb (e .to) (stage v) && leb (e .far) (instruction v)) (node (e .from) (instruction v - e .far) ∷ into es v) (into es v) h) (into-leads es u v)
+    by-row
+    (in-pick u (eqb (e .to) (stage v) && leb (e .far) (instruction v)) (node (e .from) (instruction v - e .far) ∷ into es v) (into es v) h)
+    (into-leads es u v)
   where
     T : Type 0
     T = ((eqb (e .to) (stage v) && leb (e .far) (instruction v)) ≡ true) × In u (node (e .from) (instruction v - e .far) ∷ into es v)
@@ -59,7 +61,10 @@ pub leads-into : (es : List Edges) (e : Edges) (v : ℕ) → In e es → e .to �
 unfolding into
 leads-into [] e v h to far = absurd h
 leads-into (x ∷ es) e v (inl q) to far =
-    subst (λ (y : Edges). In (node (e .from) (instruction v - e .far)) (pick (eqb (y .to) (stage v) && leb (y .far) (instruction v)) (node (y .from) (instruction v - y .far) ∷ into es v) (into es v))) q
+    subst
+    (λ (y : Edges).
+    In (node (e .from) (instruction v - e .far))
+    (pick (eqb (y .to) (stage v) && leb (y .far) (instruction v)) (node (y .from) (instruction v - y .far) ∷ into es v) (into es v))) q
     (rw (eq-eqb (e .to) (stage v) to, le-leb (e .far) (instruction v) far) (inl refl))
 leads-into (x ∷ es) e v (inr h) to far = in-row (eqb (x .to) (stage v) && leb (x .far) (instruction v)) (leads-into es e v h to far)
   where
@@ -150,7 +155,8 @@ module _ (b : Block) (A : Ranges b) where
   finish-up : Every Up (finishEdges b)
   unfolding finishEdges
   finish-up =
-      omega arith ▸ omega arith ▸ omega arith ▸ omega arith ▸ omega (arith, A .q .0) ▸ omega (arith, A .w .0) ▸ omega (arith, A .f .0) ▸ omega (arith, A .d .0) ▸ omega (arith, A .c .0) ▸ tt
+      omega arith ▸ omega arith ▸ omega arith ▸ omega arith ▸ omega (arith, A .q .0) ▸ omega (arith, A .w .0)
+      ▸ omega (arith, A .f .0) ▸ omega (arith, A .d .0) ▸ omega (arith, A .c .0) ▸ tt
 
   order-up : Every Up (orderEdges b)
   unfolding orderEdges

@@ -10,8 +10,8 @@ use mathlib.Core.List.{List, []}
 use native.Mathlib.Omega.{arith}
 use lib.Dec.{eqb}
 use borrow.Author.Tests.{eqb-true, eqb-false}
+use Rattle.lists.specs.Lists.{pick}
 use Rattle.lists.proofs.Bools.{by-test}
-use Rattle.lists.proofs.NumbersWhere.{oneIf}
 use Rattle.record.specs.declared.Block.{Block}
 use Rattle.model.specs.Paths.{Pairs, has, pairs, count, contending}
 use Rattle.model.specs.Rounds.{earliest, rival, round, apart, new, Windows, roundsFrom, windows, pairCount, roundCount, apartCount}
@@ -24,7 +24,7 @@ module _ (b : Block) (con known : Pairs) (early late : List ℕ) where
   after = pairs (b .n) (λ i j. has known i j || new b con known early late i j)
 
   -- each rival is found or stays a rival
-  stays : (c k a : Bool) → oneIf (c && not k) ≡ oneIf (c && not (k || (c && not k) && a)) + oneIf ((c && not k) && a)
+  stays : (c k a : Bool) → pick (c && not k) 1 0 ≡ pick (c && not (k || (c && not k) && a)) 1 0 + pick ((c && not k) && a) 1 0
   stays true true a = refl
   stays true false true = refl
   stays true false false = refl
@@ -39,7 +39,7 @@ module _ (b : Block) (con known : Pairs) (early late : List ℕ) where
       rw e (stays (has con i j) (has known i j) (apart b early late i j)))
 
   -- each known pair was known or is found
-  adds : (c k a : Bool) → oneIf (k || (c && not k) && a) ≡ oneIf k + oneIf ((c && not k) && a)
+  adds : (c k a : Bool) → pick (k || (c && not k) && a) 1 0 ≡ pick k 1 0 + pick ((c && not k) && a) 1 0
   adds true true a = refl
   adds true false true = refl
   adds true false false = refl

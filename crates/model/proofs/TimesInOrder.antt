@@ -34,11 +34,14 @@ module _ (b : Block) (A : Ranges b) where
 
   module _ (rivals : ℕ → ℕ → Bool) where
     finishes-look : (s t : List ℕ) (v : ℕ) → ((u : ℕ) → u < v → start s u ≡ start t u)
-        → map (λ j. finish (highest b) s (node EX j)) (numbersWhere 0 (instruction v) (rivals (instruction v))) ≡ map (λ j. finish (highest b) t (node EX j)) (numbersWhere 0 (instruction v) (rivals (instruction v)))
+        → map (λ j. finish (highest b) s (node EX j)) (numbersWhere 0 (instruction v) (rivals (instruction v)))
+        ≡ map (λ j. finish (highest b) t (node EX j)) (numbersWhere 0 (instruction v) (rivals (instruction v)))
     unfolding finish
     finishes-look s t v same =
         map-ext _ _ (numbersWhere 0 (instruction v) (rivals (instruction v)))
-        (λ j i. let r = numbersWhere-in (rivals (instruction v)) 0 (instruction v) j i in ap (λ (x : ℕ). x + highest b (node EX j)) (same (node EX j) (omega (arith, r .1))))
+        (λ j i.
+        let r = numbersWhere-in (rivals (instruction v)) 0 (instruction v) j i in
+        ap (λ (x : ℕ). x + highest b (node EX j)) (same (node EX j) (omega (arith, r .1))))
 
     -- so does the latest start
     pub latest-looks : (s t : List ℕ) (v : ℕ) → ((u : ℕ) → u < v → start s u ≡ start t u) → latestStart b rivals s v ≡ latestStart b rivals t v

@@ -5,7 +5,7 @@ use mathlib.Core.List.{List, [], _∷_, _++_}
 use Rattle.lists.specs.Lists.{Every, tab, tabFrom, least, leastFrom, exists, numbersWhere, numbersWhereFrom, inOrder, joined}
 use Rattle.lists.specs.Sums.{largest, sum, none, any, all}
 use Rattle.lists.specs.Bytes.{bytes}
-use Rattle.record.specs.Rules.{headerTable, lows, highs, outside, register, kind, used, unused, rule, broken}
+use Rattle.record.specs.Rules.{headerTable, lows, highs, outside, register, kind, usedBytes, unusedBytes, wrongByte, broken}
 use Rattle.record.specs.Layout.{headBytes, entryBytes, entriesBytes, body, encoded}
 use Rattle.record.specs.Refusals.{verdict, headerTest, entryTest, blockTests, blockVerdict}
 use Rattle.record.specs.declared.Block.{Block}
@@ -28,5 +28,5 @@ worked-J = refl
 
 -- AND EACH BLOCK IS ACCEPTED
 pub blocks-accepted : Every (λ b. blockVerdict b ≡ (0, 0)) (blockA ∷ blockB ∷ blockC ∷ blockD ∷ blockE ∷ blockF ∷ blockG ∷ blockH ∷ blockI ∷ blockJ ∷ [])
-unfolding verdict blockTests headerTest entryTest least leastFrom headerTable lows highs outside register kind used unused rule broken encoded body headBytes entryBytes entriesBytes joined bytes blockA blockB blockC blockD blockE blockF blockG blockH blockI blockJ
+unfolding verdict blockTests headerTest entryTest tab tabFrom least leastFrom exists headerTable lows highs outside register kind usedBytes unusedBytes wrongByte broken encoded body headBytes entryBytes entriesBytes joined bytes blockA blockB blockC blockD blockE blockF blockG blockH blockI blockJ
 blocks-accepted = (refl, (refl, (refl, (refl, (refl, (refl, (refl, (refl, (refl, (refl, tt))))))))))

@@ -1,5 +1,5 @@
 -- "Cycle rules". A rule stands before the one that uses it; otherwise the order is that of the text.
-use Prim.Native.Nat.{ℕ, zero, suc, _+_, _-_, max}
+use Prim.Native.Nat.{ℕ, zero, suc, _+_, _-_, _*_, max}
 use mathlib.Core.Bool.{Bool, not, _&&_, _||_}
 use mathlib.Core.List.{List, [], _∷_, map}
 use lib.ListN.{length, getD, set, replicate}
@@ -30,11 +30,23 @@ started s v = ltb v (length s) && not (eqb (start s v) notStarted)
 unfoldable pub finish : (ℕ → ℕ) → List ℕ → ℕ → ℕ
 finish lat s v = start s v + lat v
 
+-- "no time exceeds 513 × n": the cycles of one instruction
+abbrev pub cyclesEach : ℕ
+cyclesEach = 513
+
+-- "so 30,780": those of 60 instructions
+abbrev pub mostCycles : ℕ
+mostCycles = 60 * cyclesEach
+
+-- "cycle number above 30,779": the last that a state may have
+abbrev pub lastCycle : ℕ
+lastCycle = mostCycles - 1
+
 -- "play state unfit: cycle number above 30,779, a recorded start not below it, or a start recorded for an instruction
 -- from n on" (refusal 9)
 unfoldable pub unfit : Block → State → Bool
 unfit b p =
-    ltb 30779 (p .t)
+    ltb lastCycle (p .t)
     || exists 0 300 (λ v. started (p .starts) v && not (ltb (start (p .starts) v) (p .t)))
     || exists (nodes b) 300 (started (p .starts))
 
@@ -81,10 +93,10 @@ unfoldable pub playOn : ℕ → Block → (ℕ → ℕ) → State → State
 playOn zero b lat p = p
 playOn (suc most) b lat p = let rest = playOn most b lat (cycle b lat p) in pick (allStarted b p) p rest
 
--- "A play runs from t = 0, nothing started, until all have started": the starts then. 30,780 cycles are
--- allowed, 513 for each of 60 instructions
+-- "A play runs from t = 0, nothing started, until all have started": the starts then. As many cycles are
+-- allowed as 60 instructions may take
 unfoldable pub play : Block → (ℕ → ℕ) → List ℕ
-play b lat = playOn 30780 b lat firstState .starts
+play b lat = playOn mostCycles b lat firstState .starts
 
 -- "its length is CM(n−1)'s finish."
 unfoldable pub playLength : Block → (ℕ → ℕ) → ℕ
@@ -97,6 +109,14 @@ ready b lat s v = max (largest (map (finish lat s) (finishInto b v))) (largest (
 -- "ready, start, finish" of node v
 unfoldable pub threeTimes : Block → (ℕ → ℕ) → List ℕ → ℕ → List ℕ
 threeTimes b lat s v = ready b lat s v ∷ start s v ∷ finish lat s v ∷ []
+
+-- "ready, start, finish per node, in node order": the place of number k of the three of node v
+abbrev pub playPlace : ℕ → ℕ → ℕ
+playPlace v k = 3 * v + k
+
+-- "15 × n for a play": how many numbers the play table has
+abbrev pub playNumbers : Block → ℕ
+playNumbers b = 15 * b .n
 
 -- "The play table holds ready, start, finish per node, in node order."
 unfoldable pub playTable : Block → (ℕ → ℕ) → List ℕ

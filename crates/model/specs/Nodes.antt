@@ -37,6 +37,10 @@ stage v = v % 5
 abbrev pub instruction : ℕ → ℕ
 instruction v = v / 5
 
+-- node v is an IF
+abbrev pub isIF : ℕ → Bool
+isIF v = eqb (stage v) IF
+
 -- node v is an EX
 abbrev pub isEX : ℕ → Bool
 isEX v = eqb (stage v) EX
@@ -45,21 +49,25 @@ isEX v = eqb (stage v) EX
 abbrev pub entry : Block → ℕ → Entry
 entry b i = getD (b .entries) i noEntry
 
--- "Every latency is 1 except EX": the latency of node v, x being that of its instruction's EX
-unfoldable pub latency : ℕ → ℕ → ℕ
-latency x v = pick (isEX v) x 1
+-- "Every latency is 1 except EX": how long a fetch takes
+abbrev pub fetch : ℕ
+fetch = 1
+
+-- "Every latency is 1 except EX": the latency of node v, f being that of its instruction's IF and x that of its EX
+unfoldable pub latency : ℕ → ℕ → ℕ → ℕ
+latency f x v = pick (isEX v) x (pick (isIF v) f 1)
 
 -- "which is lo to hi.": the lowest latency of node v
 unfoldable pub lowest : Block → ℕ → ℕ
-lowest b v = latency (entry b (instruction v) .lo) v
+lowest b v = latency fetch (entry b (instruction v) .lo) v
 
 -- the highest
 unfoldable pub highest : Block → ℕ → ℕ
-highest b v = latency (entry b (instruction v) .hi) v
+highest b v = latency fetch (entry b (instruction v) .hi) v
 
 -- the one that a list with a number for each instruction chooses
 unfoldable pub chosen : Block → List ℕ → ℕ → ℕ
-chosen b l v = latency (getD l (instruction v) 0) v
+chosen b l v = latency fetch (getD l (instruction v) 0) v
 
 -- "Each instruction has nodes": those of a block are the numbers below this one
 abbrev pub nodes : Block → ℕ

@@ -1,5 +1,5 @@
 -- "Round rules". A rule stands before the one that uses it; otherwise the order is that of the text.
-use Prim.Native.Nat.{ℕ, zero, suc, _+_, _-_, min, max}
+use Prim.Native.Nat.{ℕ, zero, suc, _+_, _-_, _*_, min, max}
 use mathlib.Core.Bool.{Bool, not, _&&_, _||_}
 use mathlib.Core.List.{List, [], _++_, map}
 use lib.ListN.{getD}
@@ -94,6 +94,14 @@ apartCount b = count (b .n) (has (windows b .known))
 -- "The bound is CM(n−1)'s latest finish."
 unfoldable pub bound : Block → ℕ
 bound b = finish (highest b) (windows b .late) (node CM (b .n - 1))
+
+-- "per node, earliest ready, start, finish, then latest ready, start, finish.": the place of number k of the six of node v
+abbrev pub windowPlace : ℕ → ℕ → ℕ
+windowPlace v k = 6 * v + k
+
+-- "30 × n numbers for windows": how many numbers the window table has
+abbrev pub windowNumbers : Block → ℕ
+windowNumbers b = 30 * b .n
 
 -- "The window table has, per node, earliest ready, start, finish, then latest ready, start, finish."
 unfoldable pub windowTable : Block → List ℕ

@@ -12,6 +12,7 @@ use Rattle.lists.proofs.Least.{least-below}
 use Rattle.lists.proofs.Bools.{or-left, or-right}
 use Rattle.record.specs.Refusals.{verdict, outputTest}
 use Rattle.record.specs.declared.Block.{Block}
+use Rattle.record.specs.declared.Reason.the-variants.{Latency}
 use Rattle.record.proofs.Verdicts.{none, refuse, pass, passed, refuse-firstFault, pass-firstFault, passed-firstFault}
 use Rattle.model.specs.Nodes.{entry}
 use Rattle.schedules.specs.inside.Executions.{Fitting}
@@ -29,11 +30,11 @@ module _ (b : Block) (l : List ℕ) where
 
   pub list-latency : length l ≡ b .n → (i : ℕ) → i ≡ least 0 (b .n) (wrong b l) → i < b .n → verdict (listTests b l) ≡ (8, i)
   unfolding latencyTest
-  list-latency e i f h = past-length e ∙ refuse-firstFault 8 0 (b .n) (wrong b l) [] i f h
+  list-latency e i f h = past-length e ∙ refuse-firstFault Latency 0 (b .n) (wrong b l) [] i f h
 
   pub list-none : length l ≡ b .n → b .n ≤ least 0 (b .n) (wrong b l) → verdict (listTests b l) ≡ (0, 0)
   unfolding latencyTest
-  list-none e h = past-length e ∙ pass-firstFault 8 0 (b .n) (wrong b l) [] h ∙ none
+  list-none e h = past-length e ∙ pass-firstFault Latency 0 (b .n) (wrong b l) [] h ∙ none
 
 -- ---- after the test of an output with room for k numbers
 module _ (b : Block) (l : List ℕ) (k : ℕ) where
@@ -50,8 +51,8 @@ module _ (b : Block) (l : List ℕ) (z : verdict (listTests b l) ≡ (0, 0)) whe
   parts : (length l ≡ b .n) × (b .n ≤ least 0 (b .n) (wrong b l))
   unfolding listTests listTest latencyTest
   parts =
-      let x = passed (listTest b l) _ (omega arith) z in
-      (eqb-true _ _ (not-false _ (x .0)), passed-firstFault 8 0 (b .n) (wrong b l) [] (omega arith) (x .1) .0)
+      let x = passed (listTest b l) _ z in
+      (eqb-true _ _ (not-false _ (x .0)), passed-firstFault Latency 0 (b .n) (wrong b l) [] (x .1) .0)
 
   -- has n latencies
   pub listed : length l ≡ b .n
@@ -61,8 +62,10 @@ module _ (b : Block) (l : List ℕ) (z : verdict (listTests b l) ≡ (0, 0)) whe
   pub ranged : (i : ℕ) → i < b .n → (entry b i .lo ≤ getD l i 0) × (getD l i 0 ≤ entry b i .hi)
   unfolding wrong
   ranged i h =
-      let w = least-below 0 (b .n) (wrong b l) i (omega arith) (omega (arith, parts .1)) h in
-      (ltb-false (getD l i 0) (entry b i .lo) (or-left _ (ltb (entry b i .hi) (getD l i 0)) w), ltb-false (entry b i .hi) (getD l i 0) (or-right (ltb (getD l i 0) (entry b i .lo)) _ w))
+      let w = least-below 0 (b .n) (wrong b l) i (omega arith) (omega (arith, parts .1)) h in (
+        ltb-false (getD l i 0) (entry b i .lo) (or-left _ (ltb (entry b i .hi) (getD l i 0)) w),
+        ltb-false (entry b i .hi) (getD l i 0) (or-right (ltb (getD l i 0) (entry b i .lo)) _ w),
+      )
 
   -- so the entries allow them
   pub accepted-fitting : Fitting b l

@@ -67,7 +67,7 @@ module _ (b : Block) (l : List ℕ) where
 
   pub both-listed : blockVerdict b ≡ (0, 0) → verdict (lengthTests b l) ≡ verdict (listTests b l)
   unfolding lengthTests blockTests headerTest entryTest
-  both-listed z = after-accepted (blockTests b) (listTests b l) refl z
+  both-listed z = after-accepted (blockTests b) (listTests b l) z
 
   -- for the output's test there is room enough
   pub room-enough : blockVerdict b ≡ (0, 0) → verdict (lengthTests b l) ≡ verdict (outputTest (leb (15 * b .n) 900) ∷ listTests b l)
@@ -76,14 +76,16 @@ module _ (b : Block) (l : List ℕ) where
   -- what an accepted one is
   pub length-fine : verdict (lengthTests b l) ≡ (0, 0) → (blockVerdict b ≡ (0, 0)) × (verdict (listTests b l) ≡ (0, 0))
   unfolding lengthTests blockTests headerTest entryTest
-  length-fine z = both-accepted (blockTests b) (listTests b l) refl z
+  length-fine z = both-accepted (blockTests b) (listTests b l) z
 
 module _ (b : Block) (l : List ℕ) (w : Whole b) where
-  pub length-refused : (r : Reason) (a : Answer) → a ≡ Refused r → meaning a ≡ verdict (lengthTests b l) → GivesPlayLength b l (record { answer = a; cycles = 0 })
+  pub length-refused : (r : Reason) (a : Answer) → a ≡ Refused r → meaning a ≡ verdict (lengthTests b l)
+      → GivesPlayLength b l (record { answer = a; cycles = 0 })
   unfolding playLengthGiven
   length-refused r a e h = record { whole = w; answer = h; cycles = rw (refused-out (verdict (lengthTests b l)) r a e h) refl }
 
-  pub length-done : (a : Answer) (x : ℕ) → verdict (lengthTests b l) ≡ (0, 0) → a ≡ Accepted → x ≡ playLength b (chosen b l) → GivesPlayLength b l (record { answer = a; cycles = x })
+  pub length-done : (a : Answer) (x : ℕ) → verdict (lengthTests b l) ≡ (0, 0) → a ≡ Accepted → x ≡ playLength b (chosen b l)
+      → GivesPlayLength b l (record { answer = a; cycles = x })
   unfolding playLengthGiven
   length-done a x z e f = record { whole = w; answer = ap meaning e ∙ sym z; cycles = rw z f }
 
@@ -103,7 +105,7 @@ module _ (b : Block) (l : List ℕ) (p : PlayState) where
 
   past-lists : verdict (lengthTests b l) ≡ (0, 0) → verdict (cycleTests b l (stateOf p)) ≡ verdict (stateTest b (stateOf p) ∷ [])
   unfolding lengthTests listTests blockTests headerTest entryTest listTest latencyTest
-  past-lists z = ap verdict cycle-tests ∙ after-accepted (lengthTests b l) _ refl z
+  past-lists z = ap verdict cycle-tests ∙ after-accepted (lengthTests b l) _ z
 
 module _ (b : Block) (l : List ℕ) (p : PlayState) (w : Whole b) where
   pub cycle-refused : (r : Reason) (a : Answer) → a ≡ Refused r → meaning a ≡ verdict (lengthTests b l) → PlaysCycle b l p (record { answer = a; state = p })
@@ -127,12 +129,13 @@ module _ (b : Block) (l : List ℕ) (p : PlayState) (w : Whole b) where
 
 module _ (b : Block) (l : List ℕ) (p : PlayState) where
   -- what an accepted one is
-  pub cycle-fine : verdict (cycleTests b l (stateOf p)) ≡ (0, 0) → (blockVerdict b ≡ (0, 0)) × (verdict (listTests b l) ≡ (0, 0)) × (unfit b (stateOf p) ≡ false)
+  pub cycle-fine : verdict (cycleTests b l (stateOf p)) ≡ (0, 0)
+      → (blockVerdict b ≡ (0, 0)) × (verdict (listTests b l) ≡ (0, 0)) × (unfit b (stateOf p) ≡ false)
   unfolding lengthTests listTests blockTests headerTest entryTest listTest latencyTest stateTest
   cycle-fine z =
-      let x = both-accepted (lengthTests b l) (stateTest b (stateOf p) ∷ []) refl (ap verdict (sym (cycle-tests b l p)) ∙ z) in
+      let x = both-accepted (lengthTests b l) (stateTest b (stateOf p) ∷ []) (ap verdict (sym (cycle-tests b l p)) ∙ z) in
       let y = length-fine b l (x .0) in
-      (y .0, y .1, passed (stateTest b (stateOf p)) [] (omega arith) (x .1) .0)
+      (y .0, y .1, passed (stateTest b (stateOf p)) [] (x .1) .0)
 
   -- a cycle has one outcome
   pub cycle-one : (x y : Step) → PlaysCycle b l p x → PlaysCycle b l p y → x ≡ y
@@ -147,7 +150,7 @@ module _ (b : Block) (l o : List ℕ) where
 
   past-block : blockVerdict b ≡ (0, 0) → verdict (playTests b l o) ≡ verdict (room ∷ listTests b l)
   unfolding playTests blockTests headerTest entryTest
-  past-block z = after-accepted (blockTests b) (room ∷ listTests b l) refl z
+  past-block z = after-accepted (blockTests b) (room ∷ listTests b l) z
 
 module _ (b : Block) (l o : List ℕ) (w : Whole b) where
   untouched : (r : Reason) (a : Answer) → a ≡ Refused r → meaning a ≡ verdict (playTests b l o) → Plays b l o a o
@@ -172,13 +175,13 @@ module _ (b : Block) (l o : List ℕ) where
   -- what an accepted output and list are
   pub lent-fine : verdict (room b l o ∷ listTests b l) ≡ (0, 0) → (15 * b .n ≤ length o) × (verdict (listTests b l) ≡ (0, 0))
   unfolding outputTest
-  lent-fine z = let y = passed (room b l o) (listTests b l) (omega arith) z in (leb-true _ _ (not-false _ (y .0)), y .1)
+  lent-fine z = let y = passed (room b l o) (listTests b l) z in (leb-true _ _ (not-false _ (y .0)), y .1)
 
   -- what an accepted one is
   pub play-fine : verdict (playTests b l o) ≡ (0, 0) → (blockVerdict b ≡ (0, 0)) × (15 * b .n ≤ length o) × (verdict (listTests b l) ≡ (0, 0))
   unfolding playTests blockTests headerTest entryTest
   play-fine z =
-      let x = both-accepted (blockTests b) (room b l o ∷ listTests b l) refl z in
+      let x = both-accepted (blockTests b) (room b l o ∷ listTests b l) z in
       let y = lent-fine (x .1) in
       (x .0, y .0, y .1)
 

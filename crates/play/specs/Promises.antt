@@ -1,7 +1,7 @@
 -- "How much each promise has to say": what each operation promises of its outcome.
 use mathlib.Core.Path.{_≡_}
 use mathlib.Core.List.{List, _++_}
-use Prim.Native.Nat.{ℕ, _*_}
+use Prim.Native.Nat.{ℕ}
 use lib.ListN.{drop}
 use Rattle.lists.specs.Lists.{pick}
 use Rattle.record.specs.Refusals.{meaning, verdict, accepts}
@@ -9,7 +9,7 @@ use Rattle.record.specs.Promises.{Whole}
 use Rattle.record.specs.declared.Answer.{Answer}
 use Rattle.record.specs.declared.Block.{Block}
 use Rattle.model.specs.Nodes.{chosen}
-use Rattle.model.specs.Cycles.{State, cycle, playLength, playTable}
+use Rattle.model.specs.Cycles.{State, cycle, playLength, playNumbers, playTable}
 use Rattle.play.specs.Refusals.{cycleTests, playTests, lengthTests}
 use Rattle.play.specs.declared.PlayState.{PlayState}
 use Rattle.play.specs.declared.Step.{Step}
@@ -25,7 +25,7 @@ stepped b l p = pick (accepts (verdict (cycleTests b l p))) (cycle b (chosen b l
 
 -- what the output of a play holds at the end. "Numbers beyond those stay untouched."
 unfoldable pub played : Block → List ℕ → List ℕ → List ℕ
-played b l o = pick (accepts (verdict (playTests b l o))) (playTable b (chosen b l) ++ drop (15 * b .n) o) o
+played b l o = pick (accepts (verdict (playTests b l o))) (playTable b (chosen b l) ++ drop (playNumbers b) o) o
 
 -- the length of a play. "any other value handed back beside a refusal is all zero"
 unfoldable pub playLengthGiven : Block → List ℕ → ℕ

@@ -1,2 +1,1 @@
-pub mod PlayFacts
-pub mod NodeTurn
+pub mod StartTest

@@ -1,5 +1,4 @@
 // The play of a block: one cycle by value, and the play table.
-mod nodes;
 mod operations;
 mod refusals;
 

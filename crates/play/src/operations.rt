@@ -10,15 +10,12 @@ ghost use Rattle.play.specs.Promises.{stateOf, PlaysCycle, Plays, GivesP
 use crate::PlayLength;
 use crate::PlayState;
 use crate::Step;
-use crate::nodes::cycle_into;
 use crate::refusals::lent_answer;
 use crate::refusals::unfit_state;
 use choices::table_into;
+use cycles::cycle_into;
 use record::Answer;
 use record::Block;
-use record::KIND;
-use record::READS1;
-use record::READS2;
 use record::Reason;
 
 // The state after a cycle.
@@ -27,11 +24,9 @@ fn next_state(b: Block, lat: &[u8], p: PlayState) -> PlayState
     ensures { λ r. ⌜ stateOf r ≡ cycle b (chosen b (now (lat .entry))) (stateOf p) ⌝ }
 {
     let h = unpacked::shape_of(b);
-    let kinds = unpacked::column(b, KIND);
-    let s1 = unpacked::sources(b, READS1);
-    let s2 = unpacked::sources(b, READS2);
+    let u = unpacked::columns_of(b);
     let mut s = p.starts;
-    cycle_into(h, &kinds, lat, &s1, &s2, unpacked::wide(p.t), &mut s);
+    cycle_into(h, &u, lat, unpacked::wide(p.t), &mut s);
     PlayState {
         t: p.t + 1,
         starts: s,
@@ -42,7 +37,7 @@ fn next_state(b: Block, lat: &[u8], p: PlayState) -> PlayState
 pub fn play(b: Block, lat: &[u8], out: &mut [u16]) -> Answer
     ensures { λ r. ⌜ Plays b (now (lat .entry)) (now (out .entry)) r (now (out .exit)) ⌝ }
 {
-    let answer = record::block_answer(b);
+    let answer = writer::block_answer(b);
     match answer {
         Answer::Refused(_) => answer,
         Answer::Accepted => {
@@ -62,7 +57,7 @@ pub fn play(b: Block, lat: &[u8], out: &mut [u16]) -> Answer
 fn both_answer(b: Block, lat: &[u8]) -> Answer
     ensures { λ r. ⌜ (meaning r ≡ verdict (lengthTests b (now (lat .entry)))) × Whole b ⌝ }
 {
-    let answer = record::block_answer(b);
+    let answer = writer::block_answer(b);
     match answer {
         Answer::Refused(_) => answer,
         Answer::Accepted => lent_answer(b, lat, 900),

@@ -2,21 +2,24 @@
 ghost use mathlib.Core.Path.{_≡_};
 ghost use mathlib.Core.Bool.{_||_};
 ghost use mathlib.Core.List.{_∷_};
-ghost use Prim.Native.Nat.{_*_, _≤_};
+ghost use Prim.Native.Nat.{_≤_};
 ghost use lib.ListN.{length};
 ghost use lib.Dec.{leb, ltb};
 ghost use Rattle.lists.specs.Lists.{least};
 ghost use Rattle.record.specs.Refusals.{meaning, verdict, outputTest};
 ghost use Rattle.record.specs.declared.Block.{Block};
-ghost use Rattle.model.specs.Cycles.{unfit};
+ghost use Rattle.model.specs.Cycles.{unfit, playNumbers};
 ghost use Rattle.play.specs.Refusals.{wrong, listTests};
 ghost use Rattle.play.specs.Promises.{stateOf};
-ghost use Rattle.play.specs.inside.NodeTurn.{unfitAt};
+ghost use Rattle.play.specs.inside.StartTest.{unfitAt};
 use crate::PlayState;
 use record::Answer;
 use record::Block;
 use record::Entry;
 use record::Reason;
+
+// The last cycle number that a state may have.
+const LAST_CYCLE: u16 = 30779;
 
 fn is_wrong(l: u8, e: Entry) -> bool
     ensures { λ r. ⌜ r ≡ (ltb l (e .lo) || ltb (e .hi) l) ⌝ }
@@ -42,7 +45,7 @@ fn latency_fault(b: Block, lat: &[u8]) -> usize
 // Tests 6, 7 and 8, of an output with room for so many numbers.
 pub fn lent_answer(b: Block, lat: &[u8], room: usize) -> Answer
     requires { ⌜ b .n ≤ 60 ⌝ }
-    ensures { λ r. ⌜ meaning r ≡ verdict (outputTest (leb (15 * b .n) room) ∷ listTests b (now (lat .entry))) ⌝ }
+    ensures { λ r. ⌜ meaning r ≡ verdict (outputTest (leb (playNumbers b) room) ∷ listTests b (now (lat .entry))) ⌝ }
 {
     let n = b.n as usize;
     let need = 15 * n;
@@ -75,7 +78,7 @@ pub fn unfit_state(n: usize, p: PlayState) -> bool
     ensures { λ r. ⌜ ((b : Block) → n ≡ b .n → r ≡ unfit b (stateOf p)) ⌝ }
 {
     let end = 5 * n;
-    if p.t > 30779 {
+    if p.t > LAST_CYCLE {
         return true;
     }
     for v in 0..300 {

@@ -1,19 +1,20 @@
 -- What an accepted block is, in numbers: its header's and its instructions' ranges. Assumes nothing.
-use mathlib.Core.Path.{_≡_, refl, _∙_}
-use mathlib.Core.Bool.{true, false, _&&_, _||_}
+use mathlib.Core.Path.{_≡_, _∙_}
+use mathlib.Core.Bool.{false, _||_}
 use Prim.Native.Nat.{ℕ, _≤_, _<_}
 use native.Mathlib.Omega.{arith}
 use lib.ListN.{getD}
-use lib.Dec.{leb, ltb, eqb}
-use borrow.Author.Tests.{lt-ltb, ltb-false, leb-true, not-false}
-use Rattle.lists.proofs.Least.{least-below}
-use Rattle.lists.proofs.Bools.{or-left, or-right, and-left, and-right}
-use Rattle.record.specs.Rules.{headerTable, lows, highs, outside, kind, register, used, rule, broken}
+use lib.Dec.{ltb}
+use borrow.Author.Tests.{ltb-false}
+use Rattle.lists.proofs.Least.{least-below, exists-not}
+use Rattle.lists.proofs.Bools.{or-left, or-right}
+use Rattle.record.specs.Rules.{headerTable, lows, highs, outside, wrongByte, broken}
 use Rattle.record.specs.Layout.{noEntry, headBytes, entryBytes, encoded}
 use Rattle.record.specs.inside.EntryBytes.{byteOf}
 use Rattle.record.specs.Refusals.{blockVerdict}
 use Rattle.record.specs.declared.Block.{Block}
-use Rattle.record.proofs.RecordBytes.{outside-head, broken-value}
+use Rattle.record.proofs.EntryRules.{first-three}
+use Rattle.record.proofs.RecordBytes.{outside-head, wrong-value}
 use Rattle.record.proofs.OutputVerdicts.{block-fine}
 
 -- instruction i of an accepted block
@@ -35,27 +36,22 @@ pub record Ranges (b : Block) : Type 0 where
 in-range : (l h x : ℕ) → (ltb x l || ltb h x) ≡ false → (l ≤ x) × (x ≤ h)
 in-range l h x e = (ltb-false x l (or-left (ltb x l) (ltb h x) e), ltb-false h x (or-right (ltb x l) (ltb h x) e))
 
-first-three : (x : ℕ → ℕ) → used x ≡ true → (x 0 ≤ 3) × (1 ≤ x 1) × (x 1 ≤ x 2)
-unfolding used kind
-first-three x e =
-    let a : (leb (x 0) 3 && leb 1 (x 1) && leb (x 1) (x 2)) ≡ true
-    = and-left _ (register (x 3)) (and-left _ (register (x 4)) (and-left _ (register (x 5)) (and-left _ (eqb (x 6) 0) (and-left _ (eqb (x 7) 0) e)))) in
-    let d : (leb (x 0) 3 && leb 1 (x 1)) ≡ true = and-left _ (leb (x 1) (x 2)) a in
-    (leb-true (x 0) 3 (and-left _ (leb 1 (x 1)) d), leb-true 1 (x 1) (and-right (leb (x 0) 3) _ d), leb-true (x 1) (x 2) (and-right (leb (x 0) 3 && leb 1 (x 1)) _ a))
-
 module _ (b : Block) (z : blockVerdict b ≡ (0, 0)) where
   header : (k : ℕ) → 4 ≤ k → k < 28 → outside (headBytes b) k ≡ false
   header k a l = outside-head b k l ∙ least-below 4 28 (outside (encoded b)) k a (omega (arith, block-fine b z .0)) l
 
-  kept : (i : ℕ) → i < 60 → rule (b .n) i (byteOf (getD (b .entries) i noEntry)) ≡ true
-  kept i l =
-      not-false _ (broken-value b i l _ refl ∙ least-below 0 60 (broken (encoded b)) i (omega arith) (omega (arith, block-fine b z .1)) l)
+  kept : (i : ℕ) → i < 60 → (k : ℕ) → k < 8 → wrongByte (b .n) i (byteOf (getD (b .entries) i noEntry)) k ≡ false
+  unfolding broken
+  kept i l k g =
+      let whole : broken (encoded b) i ≡ false = least-below 0 60 (broken (encoded b)) i (omega arith) (omega (arith, block-fine b z .1)) l in
+      wrong-value b i l k ∙ exists-not 0 8 _ whole k (omega arith) g
 
   instruction : b .n ≤ 60 → (i : ℕ) → i < b .n → Instruction b i
-  unfolding rule entryBytes
+  unfolding entryBytes
   instruction few i l =
       let k = kept i (omega arith) in
-      let u = first-three (byteOf (getD (b .entries) i noEntry)) (rw (lt-ltb i (b .n) l) at k) in
+      let x = byteOf (getD (b .entries) i noEntry) in
+      let u = first-three (b .n) i x l (k 0 (omega arith)) (k 1 (omega arith)) (k 2 (omega arith)) in
       record { kind = u .0; lo = u .1; hi = u .2 }
 
   pub ranges : Ranges b

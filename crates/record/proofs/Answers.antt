@@ -2,7 +2,7 @@
 use mathlib.Core.Path.{_≡_, refl, sym, ap, _∙_}
 use mathlib.Core.Bool.{false}
 use mathlib.Core.List.{List}
-use Prim.Native.Nat.{ℕ, zero, suc, _-_}
+use Prim.Native.Nat.{ℕ, suc, _-_}
 use native.Mathlib.Omega.{arith}
 use lib.Dec.{eqb}
 use borrow.Author.Tests.{ne-eqb}
@@ -15,51 +15,21 @@ use Rattle.record.specs.declared.Answer.the-variants.{Accepted, Refused}
 use Rattle.record.specs.declared.Block.{Block}
 use Rattle.record.specs.declared.Reading.{Reading}
 use Rattle.record.specs.declared.Reason.{Reason}
-use Rattle.record.specs.declared.Reason.the-variants.{Length, Check, Letters, Header, Rule, Output, Latencies, Latency, State}
+use Rattle.record.proofs.ReasonNumbers.{number-from-one, reason-one}
 
 -- refusals are numbered from 1
 pub number-above : (r : Reason) → numberOf r ≡ suc (numberOf r - 1)
-number-above Length = refl
-number-above Check = refl
-number-above Letters = refl
-number-above (Header k) = refl
-number-above (Rule i) = refl
-number-above Output = refl
-number-above Latencies = refl
-number-above (Latency i) = refl
-number-above State = refl
+number-above r = omega (arith, number-from-one r)
 
 pub refused-not : (r : Reason) → eqb (numberOf r) 0 ≡ false
-refused-not r = ne-eqb (numberOf r) 0 (λ e. omega (arith, number-above r))
-
--- the answer of a number and a place
-named : ℕ → ℕ → Answer
-named zero p = Accepted
-named (suc zero) p = Refused Length
-named (suc (suc zero)) p = Refused Check
-named (suc (suc (suc zero))) p = Refused Letters
-named (suc (suc (suc (suc zero)))) p = Refused (Header p)
-named (suc (suc (suc (suc (suc zero))))) p = Refused (Rule p)
-named (suc (suc (suc (suc (suc (suc zero)))))) p = Refused Output
-named (suc (suc (suc (suc (suc (suc (suc zero))))))) p = Refused Latencies
-named (suc (suc (suc (suc (suc (suc (suc (suc zero)))))))) p = Refused (Latency p)
-named (suc (suc (suc (suc (suc (suc (suc (suc (suc k))))))))) p = Refused State
-
-named-back : (a : Answer) → named (meaning a .0) (meaning a .1) ≡ a
-unfolding named
-named-back Accepted = refl
-named-back (Refused Length) = refl
-named-back (Refused Check) = refl
-named-back (Refused Letters) = refl
-named-back (Refused (Header k)) = refl
-named-back (Refused (Rule i)) = refl
-named-back (Refused Output) = refl
-named-back (Refused Latencies) = refl
-named-back (Refused (Latency i)) = refl
-named-back (Refused State) = refl
+refused-not r = ne-eqb (numberOf r) 0 (λ e. omega (arith, number-from-one r))
 
 pub meaning-one : (a b : Answer) → meaning a ≡ meaning b → a ≡ b
-meaning-one a b e = sym (named-back a) ∙ ap (λ (p : ℕ × ℕ). named (p .0) (p .1)) e ∙ named-back b
+meaning-one Accepted Accepted e = refl
+meaning-one Accepted (Refused r) e = absurd (omega (arith, number-from-one r, ap (λ (p : ℕ × ℕ). p .0) e))
+meaning-one (Refused r) Accepted e = absurd (omega (arith, number-from-one r, ap (λ (p : ℕ × ℕ). p .0) e))
+meaning-one (Refused r) (Refused q) e =
+    ap Refused (reason-one r q (ap (λ (p : ℕ × ℕ). p .0) e) (ap (λ (p : ℕ × ℕ). p .1) e))
 
 -- an answer that accepts means that no test is given
 pub accepted-so : (a : Answer) {v : ℕ × ℕ} → a ≡ Accepted → meaning a ≡ v → v ≡ (0, 0)

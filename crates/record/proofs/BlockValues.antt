@@ -29,7 +29,10 @@ zero-bytes =
 
 -- entries as the machine has them
 abbrev Known : List Entry → Type 0
-Known es = WT (laws.the-laws .1 .1 .1 .1 .1 .1 .1 .1 .0 .val (map (λ (e : Entry). (e .kind, (e .lo, (e .hi, (e .writes, (e .reads1, (e .reads2, Prim.tt {0}))))))) es))
+Known es =
+    WT
+    (laws.the-laws .1 .1 .1 .1 .1 .1 .1 .1 .0 .val
+    (map (λ (e : Entry). (e .kind, (e .lo, (e .hi, (e .writes, (e .reads1, (e .reads2, Prim.tt {0}))))))) es))
 
 -- each of them is six bytes
 pub each-bytes : (es : List Entry) → Known es → (i : ℕ) → ByteEntry (getD es i noEntry)

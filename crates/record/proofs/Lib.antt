@@ -1,5 +1,6 @@
 pub mod CheckByWord
 pub mod EntryRules
+pub mod ReasonNumbers
 pub mod Verdicts
 pub mod RecordBytes
 pub mod Answers

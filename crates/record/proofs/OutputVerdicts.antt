@@ -23,7 +23,7 @@ use Rattle.record.specs.declared.Answer.{Answer}
 use Rattle.record.specs.declared.Answer.the-variants.{Accepted, Refused}
 use Rattle.record.specs.declared.Block.{Block}
 use Rattle.record.specs.declared.Reason.{Reason}
-use Rattle.record.specs.declared.Reason.the-variants.{Output}
+use Rattle.record.specs.declared.Reason.the-variants.{Header, Rule, Output}
 use Rattle.record.proofs.CheckByWord.{check-ext}
 use Rattle.record.proofs.RecordBytes.{length-entry, length-head, length-entries, length-body, outside-head}
 use Rattle.record.proofs.Verdicts.{refuse, pass, passed, refuse-firstFault, pass-firstFault, passed-firstFault, none, after-accepted, after-refused}
@@ -46,26 +46,26 @@ module _ (b : Block) where
 
   pub block-header : (h : ℕ) → h ≡ least 4 28 (outside (encoded b)) → h < 28 → blockVerdict b ≡ (4, h)
   unfolding blockTests headerTest
-  block-header h e l = refuse-firstFault 4 4 28 (outside (encoded b)) _ h e l
+  block-header h e l = refuse-firstFault Header 4 28 (outside (encoded b)) _ h e l
 
   past-header : (ts : List Test) → 28 ≤ least 4 28 (outside (encoded b)) → verdict (headerTest (encoded b) ∷ ts) ≡ verdict ts
   unfolding headerTest
-  past-header ts l = pass-firstFault 4 4 28 (outside (encoded b)) ts l
+  past-header ts l = pass-firstFault Header 4 28 (outside (encoded b)) ts l
 
   pub block-entry : 28 ≤ least 4 28 (outside (encoded b)) → (i : ℕ) → i ≡ least 0 60 (broken (encoded b)) → i < 60 → blockVerdict b ≡ (5, i)
   unfolding blockTests entryTest
-  block-entry a i e l = past-header _ a ∙ refuse-firstFault 5 0 60 (broken (encoded b)) _ i e l
+  block-entry a i e l = past-header _ a ∙ refuse-firstFault Rule 0 60 (broken (encoded b)) _ i e l
 
   pub block-none : 28 ≤ least 4 28 (outside (encoded b)) → 60 ≤ least 0 60 (broken (encoded b)) → blockVerdict b ≡ (0, 0)
   unfolding blockTests entryTest
-  block-none a l = past-header _ a ∙ pass-firstFault 5 0 60 (broken (encoded b)) [] l ∙ none
+  block-none a l = past-header _ a ∙ pass-firstFault Rule 0 60 (broken (encoded b)) [] l ∙ none
 
   -- what an accepted block is
   pub block-fine : blockVerdict b ≡ (0, 0) → (28 ≤ least 4 28 (outside (encoded b))) × (60 ≤ least 0 60 (broken (encoded b)))
   unfolding blockTests headerTest entryTest
   block-fine z =
-      let a = passed-firstFault 4 4 28 (outside (encoded b)) _ (omega arith) z in
-      let d = passed-firstFault 5 0 60 (broken (encoded b)) _ (omega arith) (a .1) in
+      let a = passed-firstFault Header 4 28 (outside (encoded b)) _ z in
+      let d = passed-firstFault Rule 0 60 (broken (encoded b)) _ (a .1) in
       (a .0, d .0)
 
   -- a refusal 4 has place 4 to 27
@@ -93,15 +93,15 @@ pub record Outcome (b : Block) (right : Bool) (made o : List ℕ) (a : Answer) (
 module _ (b : Block) (right : Bool) where
   past-block : blockVerdict b ≡ (0, 0) → putVerdict b right ≡ verdict (outputTest right ∷ [])
   unfolding blockTests headerTest entryTest
-  past-block z = after-accepted (blockTests b) _ refl z
+  past-block z = after-accepted (blockTests b) _ z
 
   -- what an accepted one is
   pub put-fine : putVerdict b right ≡ (0, 0) → (blockVerdict b ≡ (0, 0)) × (right ≡ true)
   unfolding blockTests headerTest entryTest outputTest
   put-fine z =
-      let a = passed-firstFault 4 4 28 (outside (encoded b)) _ (omega arith) z in
-      let d = passed-firstFault 5 0 60 (broken (encoded b)) _ (omega arith) (a .1) in
-      let g = passed (outputTest right) _ (omega arith) (d .1) in
+      let a = passed-firstFault Header 4 28 (outside (encoded b)) _ z in
+      let d = passed-firstFault Rule 0 60 (broken (encoded b)) _ (a .1) in
+      let g = passed (outputTest right) _ (d .1) in
       (block-none b (a .0) (d .0), not-false _ (g .0))
 
   module _ (made o : List ℕ) where
@@ -150,7 +150,8 @@ pub put-entries : (head entries o : List ℕ) → length head ≡ 28 → length 
 put-entries head entries o h e = put-next head entries o 28 h ∙ rw e refl
 
 -- the check put behind the 508 bytes of a body
-pub put-seal : (bs o : List ℕ) → length bs ≡ 508 → length o ≡ 512 → put (bs ++ drop 508 o) 508 (bytes 4 (checkOf (bs ++ drop 508 o))) ≡ bs ++ bytes 4 (checkOf bs)
+pub put-seal : (bs o : List ℕ) → length bs ≡ 508 → length o ≡ 512
+    → put (bs ++ drop 508 o) 508 (bytes 4 (checkOf (bs ++ drop 508 o))) ≡ bs ++ bytes 4 (checkOf bs)
 put-seal bs o n l =
     let k : checkOf (bs ++ drop 508 o) ≡ checkOf bs
     = check-ext _ bs (λ j h. List·getD-append bs (drop 508 o) 0 j (omega arith)) in
@@ -165,6 +166,12 @@ module _ (b : Block) (o : List ℕ) where
   pub put-check : length o ≡ 512 → put (body b ++ drop 508 o) 508 (bytes 4 (checkOf (body b ++ drop 508 o))) ≡ encoded b
   unfolding encoded
   put-check l = put-seal (body b) o (length-body b) l
+
+-- a header put in an output, then the entries, then the check
+pub put-record : (b : Block) (o head with-head with-entries : List ℕ) → length o ≡ 512 → head ≡ headBytes b
+    → with-head ≡ head ++ drop 28 o → with-entries ≡ put with-head 28 (entriesBytes b)
+    → put with-entries 508 (bytes 4 (checkOf with-entries)) ≡ encoded b
+put-record b o head with-head with-entries l h d e = rw (e, d, h, put-body b o) (put-check b o l)
 
 -- the first i entries put behind the header of o, and the rest of o
 abbrev pub entriesIn : Block → List ℕ → ℕ → List ℕ

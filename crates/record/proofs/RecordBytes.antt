@@ -1,22 +1,24 @@
 -- The record of a block, byte by byte. Assumes nothing.
 use mathlib.Core.Path.{_≡_, refl, sym, ap, _∙_}
-use mathlib.Core.Bool.{Bool, not}
 use Prim.Native.Nat.{ℕ, _+_, _*_, _<_}
 use native.Mathlib.Nat.{add-assoc, zero-add}
 use native.Mathlib.Omega.{arith}
 use lib.ListN.{length, getD, length-append, List·getD-append}
+use lib.Dec.{ltb}
 use lib.Seq.{getD-append-add}
+use Rattle.lists.specs.Lists.{exists}
 use Rattle.lists.specs.Bytes.{little, bytes}
+use Rattle.lists.proofs.Least.{least-ext}
 use Rattle.lists.proofs.JoinedPieces.{length-joined, getD-joined}
 use Rattle.lists.proofs.Little.{length-bytes, little-ext, little-bytes}
 use Rattle.record.specs.Check.{checkOf}
-use Rattle.record.specs.Rules.{at, outside, rule, broken, entryByte}
+use Rattle.record.specs.Rules.{at, outside, wrongByte, broken, entryByte}
 use Rattle.record.specs.Layout.{noEntry, headBytes, entryBytes, entriesBytes, body, encoded}
-use Rattle.record.specs.inside.EntryBytes.{byteOf}
+use Rattle.record.specs.inside.EntryBytes.{byteOf, wrongEntry}
 use Rattle.record.specs.declared.Block.{Block}
 use Rattle.record.specs.declared.Entry.{Entry}
 use Rattle.record.proofs.CheckByWord.{check-ext, check-lt}
-use Rattle.record.proofs.EntryRules.{rule-ext}
+use Rattle.record.proofs.EntryRules.{wrong-ext}
 
 pub length-entry : (e : Entry) → length (entryBytes e) ≡ 8
 unfolding entryBytes
@@ -72,8 +74,13 @@ module _ (b : Block) where
   unfolding outside
   outside-head k h = rw (head-byte k h) refl
 
-  -- an entry breaks its rule by the block's n and the entry's own bytes
-  pub broken-value : (i : ℕ) → i < 60 → (ok : Bool) → ok ≡ rule (b .n) i (byteOf (getD (b .entries) i noEntry)) → not ok ≡ broken (encoded b) i
-  unfolding broken headBytes
-  broken-value i h ok e =
-      rw (head-byte 4 (omega arith), e) (ap not (sym (rule-ext (b .n) i _ _ (λ k g. entry-byte i k h g))))
+  -- a byte of an entry is wrong by the block's n and the entry's own bytes
+  pub wrong-value : (i : ℕ) → i < 60 → (k : ℕ) → wrongByte (b .n) i (byteOf (getD (b .entries) i noEntry)) k
+      ≡ wrongByte (getD (encoded b) 4 0) i (entryByte (encoded b) i) k
+  unfolding headBytes
+  wrong-value i h k = rw (head-byte 4 (omega arith)) (sym (wrong-ext (b .n) i _ _ (λ j g. entry-byte i j h g) k))
+
+  -- an entry breaks its rule as its own value says
+  pub broken-value : (i : ℕ) → i < 60 → wrongEntry (b .n) i (getD (b .entries) i noEntry) ≡ broken (encoded b) i
+  unfolding broken exists
+  broken-value i h = ap (λ (k : ℕ). ltb k 8) (least-ext 0 8 _ _ (λ k _ _. wrong-value i h k))

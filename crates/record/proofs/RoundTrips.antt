@@ -1,6 +1,6 @@
 -- Reading and writing undo each other. Assumes nothing.
 use mathlib.Core.Path.{_≡_, refl, sym, _∙_}
-use mathlib.Core.Bool.{true, false}
+use mathlib.Core.Bool.{false}
 use mathlib.Core.List.{List}
 use Prim.Native.Nat.{ℕ, _+_, _-_, _/_, _%_, _≤_, _<_}
 use native.Mathlib.Nat.{add-zero}
@@ -8,15 +8,15 @@ use native.Mathlib.Omega.{arith}
 use lib.ListN.{length, getD}
 use lib.Seq.{ext-getD}
 use lib.Dec.{ltb}
-use borrow.Author.Tests.{ltb-true, ltb-false, not-false}
+use borrow.Author.Tests.{ltb-true, ltb-false}
 use Rattle.lists.specs.Lists.{least}
 use Rattle.lists.specs.Bytes.{little, bytes}
 use Rattle.lists.proofs.Bools.{by-test, or-left, or-right, end, _▹_, each}
 use Rattle.lists.proofs.TableByIndex.{is-tab, getD-tab}
-use Rattle.lists.proofs.Least.{least-below, least-ext}
+use Rattle.lists.proofs.Least.{least-below, least-ext, exists-not}
 use Rattle.lists.proofs.Little.{little-ext, little-bytes, bytes-little}
 use Rattle.record.specs.Check.{checkOf}
-use Rattle.record.specs.Rules.{headerTable, lows, highs, outside, at, entryByte, rule, broken}
+use Rattle.record.specs.Rules.{headerTable, lows, highs, outside, at, entryByte, wrongByte, broken}
 use Rattle.record.specs.Layout.{noEntry, entryAt, decoded, headBytes, entryBytes, body, encoded}
 use Rattle.record.specs.inside.EntryBytes.{byteOf}
 use Rattle.record.specs.Refusals.{readVerdict, blockVerdict, writeVerdict, readBlock, written}
@@ -78,8 +78,9 @@ module _ (b : Block) where
       let f = block-fine b z in
       let same : least 0 28 (outside (headBytes b)) ≡ least 0 28 (outside (encoded b))
       = least-ext 0 28 (outside (headBytes b)) (outside (encoded b)) (λ k _ h. outside-head b k h) in
-      let r : readVerdict (encoded b) ≡ (0, 0)
-      = read-fine (encoded b) (length-encoded b) (check-same b ∙ sym (check-stored b)) (least 0 28 (outside (encoded b))) refl (omega (arith, same, head-walk b, f .0)) (f .1) in
+      let stored : checkOf (encoded b) ≡ little 4 (encoded b) 508 = check-same b ∙ sym (check-stored b) in
+      let past : 28 ≤ least 0 28 (outside (encoded b)) = omega (arith, same, head-walk b, f .0) in
+      let r : readVerdict (encoded b) ≡ (0, 0) = read-fine (encoded b) (length-encoded b) stored _ refl past (f .1) in
       (r, rw r (decoded-encoded v))
 
 -- ---- from a record to its block and back
@@ -115,14 +116,15 @@ module _ (s : List ℕ) (u : ByteString s) (f : Fine s) where
       ▹ fixed 24 (omega arith) refl ▹ fixed 25 (omega arith) refl ▹ fixed 26 (omega arith) refl ▹ fixed 27 (omega arith) refl
       ▹ end)
 
-  kept : (i : ℕ) → i < 60 → rule (getD s 4 0) i (entryByte s i) ≡ true
+  kept : (i : ℕ) → i < 60 → (k : ℕ) → k < 8 → wrongByte (getD s 4 0) i (entryByte s i) k ≡ false
   unfolding broken
-  kept i h = not-false _ (least-below 0 60 (broken s) i (omega arith) (omega (arith, f .entries)) h)
+  kept i h k g =
+      exists-not 0 8 _ (least-below 0 60 (broken s) i (omega arith) (omega (arith, f .entries)) h) k (omega arith) g
 
   entry-same : (i : ℕ) → i < 60 → (k : ℕ) → k < 8 → byteOf (entryAt s i) k ≡ entryByte s i k
   unfolding entryBytes entryAt
   entry-same i h =
-      let z = last-two (getD s 4 0) i (entryByte s i) (kept i h) in
+      let z = last-two (getD s 4 0) i (entryByte s i) (kept i h 6 (omega arith)) (kept i h 7 (omega arith)) in
       each (λ k. byteOf (entryAt s i) k ≡ entryByte s i k) 8
       (rw add-zero refl ▹ refl ▹ refl ▹ refl ▹ refl ▹ refl ▹ sym (z .0) ▹ sym (z .1) ▹ end)
 
@@ -190,7 +192,8 @@ read-written b o p a r w e x =
     (meaning-one (r .answer) Accepted (x .answer ∙ rw q (t .0)), x .block ∙ rw q (t .1))
 
 -- whatever reading an accepted byte string gives, writing it to 512 bytes accepts and gives the byte string back
-pub written-read : (s o p : List ℕ) (a : Answer) (r : Reading) → Reads s r → r .answer ≡ Accepted → length o ≡ 512 → Writes (r .block) o a p → (a ≡ Accepted) × (p ≡ s)
+pub written-read : (s o p : List ℕ) (a : Answer) (r : Reading) → Reads s r → r .answer ≡ Accepted → length o ≡ 512
+    → Writes (r .block) o a p → (a ≡ Accepted) × (p ≡ s)
 written-read s o p a r x e l w =
     let v : Writes (decoded s) o a p = rw (reading-decoded s r x e) at w in
     let same = encoded-decoded s (x .bytes) (fine s (reading-fine s r x e)) in

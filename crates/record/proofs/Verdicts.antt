@@ -1,6 +1,6 @@
 -- A verdict is that of the first test that is given: one law a step, and what an accepted input is. Assumes nothing.
 use mathlib.Core.Path.{_≡_, refl, sym, ap, _∙_}
-use mathlib.Core.Bool.{Bool, true, false, not, _&&_}
+use mathlib.Core.Bool.{Bool, true, false, not}
 use mathlib.Core.List.{List, [], _∷_, _++_}
 use Prim.Native.Nat.{ℕ, suc, _≤_, _<_}
 use native.Mathlib.Omega.{arith}
@@ -9,11 +9,14 @@ use lib.Dec.{ltb}
 use borrow.Author.Tests.{lt-ltb, le-ltb, eq-eqb, ne-eqb, ltb-true, ltb-false, eqb-true, not-false}
 use Rattle.lists.specs.Lists.{least}
 use Rattle.lists.specs.Bytes.{little}
-use Rattle.lists.proofs.Bools.{by-test, and-left, and-right}
+use Rattle.lists.proofs.Bools.{by-test}
 use Rattle.lists.proofs.Least.{least-front, least-front-none, least-back}
 use Rattle.record.specs.Check.{checkOf}
 use Rattle.record.specs.Rules.{outside, broken}
-use Rattle.record.specs.Refusals.{Test, test, firstFault, verdict, lengthTest, checkTest, lettersTest, headerTest, entryTest, readTests, readVerdict}
+use Rattle.record.specs.Refusals.{Test, firstFault, numberOf, placeOf, verdict, lengthTest, checkTest, lettersTest, headerTest, entryTest, readTests, readVerdict}
+use Rattle.record.specs.declared.Reason.{Reason}
+use Rattle.record.specs.declared.Reason.the-variants.{Header, Rule}
+use Rattle.record.proofs.ReasonNumbers.{number-from-one}
 
 -- ---- a list of tests
 pub none : verdict [] ≡ (0, 0)
@@ -21,7 +24,7 @@ unfolding verdict
 none = refl
 
 module _ (t : Test) (ts : List Test) where
-  pub refuse : t .given ≡ true → verdict (t ∷ ts) ≡ (t .number, t .place)
+  pub refuse : t .given ≡ true → verdict (t ∷ ts) ≡ (numberOf (t .reason), placeOf (t .reason))
   unfolding verdict
   refuse g = rw g refl
 
@@ -30,57 +33,52 @@ module _ (t : Test) (ts : List Test) where
   pass g = rw g refl
 
   -- no test of an accepted input is given
-  pub passed : 0 < t .number → verdict (t ∷ ts) ≡ (0, 0) → (t .given ≡ false) × (verdict ts ≡ (0, 0))
+  pub passed : verdict (t ∷ ts) ≡ (0, 0) → (t .given ≡ false) × (verdict ts ≡ (0, 0))
   unfolding verdict
-  passed h e =
+  passed e =
       by-test (t .given)
       (λ g.
-      let z : _≡_ {A = ℕ × ℕ} (t .number, t .place) (0, 0) = rw g at e in
-      absurd (omega (arith, ap (λ (p : ℕ × ℕ). p .0) z)))
+      let z : _≡_ {A = ℕ × ℕ} (numberOf (t .reason), placeOf (t .reason)) (0, 0) = rw g at e in
+      absurd (omega (arith, number-from-one (t .reason), ap (λ (p : ℕ × ℕ). p .0) z)))
       (λ g. (g, rw g at e))
 
 -- a test whose place is the first fault
-module _ (k a b : ℕ) (p : ℕ → Bool) (ts : List Test) where
-  pub refuse-firstFault : (h : ℕ) → h ≡ least a b p → h < b → verdict (firstFault k a b p ∷ ts) ≡ (k, h)
-  refuse-firstFault h e l = rw e (refuse (firstFault k a b p) ts (lt-ltb (least a b p) b (omega arith)))
+module _ (why : ℕ → Reason) (a b : ℕ) (p : ℕ → Bool) (ts : List Test) where
+  pub refuse-firstFault : (h : ℕ) → h ≡ least a b p → h < b → verdict (firstFault why a b p ∷ ts) ≡ (numberOf (why h), placeOf (why h))
+  refuse-firstFault h e l = rw e (refuse (firstFault why a b p) ts (lt-ltb (least a b p) b (omega arith)))
 
-  pub pass-firstFault : b ≤ least a b p → verdict (firstFault k a b p ∷ ts) ≡ verdict ts
-  pass-firstFault l = pass (firstFault k a b p) ts (le-ltb (least a b p) b l)
+  pub pass-firstFault : b ≤ least a b p → verdict (firstFault why a b p ∷ ts) ≡ verdict ts
+  pass-firstFault l = pass (firstFault why a b p) ts (le-ltb (least a b p) b l)
 
-  pub passed-firstFault : 0 < k → verdict (firstFault k a b p ∷ ts) ≡ (0, 0) → (b ≤ least a b p) × (verdict ts ≡ (0, 0))
-  passed-firstFault h e = let q = passed (firstFault k a b p) ts h e in (ltb-false (least a b p) b (q .0), q .1)
+  pub passed-firstFault : verdict (firstFault why a b p ∷ ts) ≡ (0, 0) → (b ≤ least a b p) × (verdict ts ≡ (0, 0))
+  passed-firstFault e = let q = passed (firstFault why a b p) ts e in (ltb-false (least a b p) b (q .0), q .1)
 
 -- a place is below x where that of each test is
 pub place-none : (x : ℕ) → 0 < x → verdict [] .1 < x
 unfolding verdict
 place-none x h = h
 
-pub place-zero : (x k : ℕ) (g : Bool) (ts : List Test) → 0 < x → verdict ts .1 < x → verdict (test k g 0 ∷ ts) .1 < x
+pub place-test : (x : ℕ) (t : Test) (ts : List Test) → placeOf (t .reason) < x → verdict ts .1 < x → verdict (t ∷ ts) .1 < x
 unfolding verdict
-place-zero x k g ts h r = by-test g (λ e. rw e h) (λ e. rw e r)
+place-test x t ts h r = by-test (t .given) (λ e. rw e h) (λ e. rw e r)
 
-pub place-firstFault : (x k a b : ℕ) (p : ℕ → Bool) (ts : List Test) → b ≤ x → verdict ts .1 < x → verdict (firstFault k a b p ∷ ts) .1 < x
+pub place-firstFault : (x : ℕ) (why : ℕ → Reason) (a b : ℕ) (p : ℕ → Bool) (ts : List Test) → ((k : ℕ) → placeOf (why k) ≡ k)
+    → b ≤ x → verdict ts .1 < x → verdict (firstFault why a b p ∷ ts) .1 < x
 unfolding verdict
-place-firstFault x k a b p ts h r =
-    by-test (ltb (least a b p) b) (λ e. rw e (omega (arith, ltb-true (least a b p) b e))) (λ e. rw e r)
+place-firstFault x why a b p ts w h r =
+    by-test (ltb (least a b p) b) (λ e. rw (e, w (least a b p)) (omega (arith, ltb-true (least a b p) b e))) (λ e. rw e r)
 
--- tests after others, where those are numbered from 1
-abbrev pub numbered : List Test → Bool
-numbered [] = true
-numbered (t ∷ ts) = ltb 0 (t .number) && numbered ts
-
-pub after-accepted : (ts us : List Test) → numbered ts ≡ true → verdict ts ≡ (0, 0) → verdict (ts ++ us) ≡ verdict us
+-- tests after others
+pub after-accepted : (ts us : List Test) → verdict ts ≡ (0, 0) → verdict (ts ++ us) ≡ verdict us
 unfolding verdict
-after-accepted [] us n z = refl
-after-accepted (t ∷ ts) us n z =
-    let q = passed t ts (ltb-true 0 (t .number) (and-left (ltb 0 (t .number)) (numbered ts) n)) z in
-    rw (q .0) (after-accepted ts us (and-right (ltb 0 (t .number)) (numbered ts) n) (q .1))
+after-accepted [] us z = refl
+after-accepted (t ∷ ts) us z = let q = passed t ts z in rw (q .0) (after-accepted ts us (q .1))
 
-pub both-accepted : (ts us : List Test) → numbered ts ≡ true → verdict (ts ++ us) ≡ (0, 0) → (verdict ts ≡ (0, 0)) × (verdict us ≡ (0, 0))
-both-accepted [] us n z = (none, z)
-both-accepted (t ∷ ts) us n z =
-    let q = passed t (ts ++ us) (ltb-true 0 (t .number) (and-left (ltb 0 (t .number)) (numbered ts) n)) z in
-    let r = both-accepted ts us (and-right (ltb 0 (t .number)) (numbered ts) n) (q .1) in
+pub both-accepted : (ts us : List Test) → verdict (ts ++ us) ≡ (0, 0) → (verdict ts ≡ (0, 0)) × (verdict us ≡ (0, 0))
+both-accepted [] us z = (none, z)
+both-accepted (t ∷ ts) us z =
+    let q = passed t (ts ++ us) z in
+    let r = both-accepted ts us (q .1) in
     (pass t ts (q .0) ∙ r .0, r .1)
 
 pub after-refused : (ts us : List Test) (k : ℕ) → verdict ts .0 ≡ suc k → verdict (ts ++ us) ≡ verdict ts
@@ -127,30 +125,30 @@ module _ (s : List ℕ) (l : length s ≡ 512) (k : checkOf s ≡ little 4 s 508
 
   pub read-header : 4 ≤ h → h < 28 → readVerdict s ≡ (4, h)
   unfolding readTests headerTest
-  read-header a b = past-letters a _ ∙ refuse-firstFault 4 4 28 (outside s) _ h (sym (same a)) b
+  read-header a b = past-letters a _ ∙ refuse-firstFault Header 4 28 (outside s) _ h (sym (same a)) b
 
   past-header : 28 ≤ h → (ts : List Test) → verdict (lengthTest s ∷ checkTest s ∷ lettersTest s ∷ headerTest s ∷ ts) ≡ verdict ts
   unfolding headerTest
   past-header a ts =
       let q : 28 ≤ least 4 28 (outside s) = omega (arith, same (omega arith)) in
-      past-letters (omega arith) _ ∙ pass-firstFault 4 4 28 (outside s) ts q
+      past-letters (omega arith) _ ∙ pass-firstFault Header 4 28 (outside s) ts q
 
   pub read-entry : 28 ≤ h → (i : ℕ) → i ≡ least 0 60 (broken s) → i < 60 → readVerdict s ≡ (5, i)
   unfolding readTests entryTest
-  read-entry a i f b = past-header a _ ∙ refuse-firstFault 5 0 60 (broken s) [] i f b
+  read-entry a i f b = past-header a _ ∙ refuse-firstFault Rule 0 60 (broken s) [] i f b
 
   pub read-fine : 28 ≤ h → 60 ≤ least 0 60 (broken s) → readVerdict s ≡ (0, 0)
   unfolding readTests entryTest
-  read-fine a b = past-header a _ ∙ pass-firstFault 5 0 60 (broken s) [] b ∙ none
+  read-fine a b = past-header a _ ∙ pass-firstFault Rule 0 60 (broken s) [] b ∙ none
 
 -- the place is below x, 60 or more, where that of the tests that come after is
 pub read-place : (s : List ℕ) (x : ℕ) (ts : List Test) → 60 ≤ x → verdict ts .1 < x → verdict (readTests s ++ ts) .1 < x
 unfolding readTests lengthTest checkTest lettersTest headerTest entryTest
 read-place s x ts h r =
     let some : 0 < x = omega arith in
-    let entries = place-firstFault x 5 0 60 (broken s) ts h r in
-    let header = place-firstFault x 4 4 28 (outside s) _ (omega arith) entries in
-    place-zero x 1 _ _ some (place-zero x 2 _ _ some (place-zero x 3 _ _ some header))
+    let entries = place-firstFault x Rule 0 60 (broken s) ts (λ k. refl) h r in
+    let header = place-firstFault x Header 4 28 (outside s) _ (λ k. refl) (omega arith) entries in
+    place-test x (lengthTest s) _ some (place-test x (checkTest s) _ some (place-test x (lettersTest s) _ some header))
 
 -- what an accepted byte string is
 pub record Fine (s : List ℕ) : Type 0 where
@@ -163,11 +161,11 @@ pub record Fine (s : List ℕ) : Type 0 where
 pub fine : (s : List ℕ) → readVerdict s ≡ (0, 0) → Fine s
 unfolding readTests lengthTest checkTest lettersTest headerTest entryTest
 fine s z =
-    let a = passed (lengthTest s) _ (omega arith) z in
-    let b = passed (checkTest s) _ (omega arith) (a .1) in
-    let d = passed (lettersTest s) _ (omega arith) (b .1) in
-    let f = passed-firstFault 4 4 28 (outside s) _ (omega arith) (d .1) in
-    let g = passed-firstFault 5 0 60 (broken s) _ (omega arith) (f .1) in
+    let a = passed (lengthTest s) _ z in
+    let b = passed (checkTest s) _ (a .1) in
+    let d = passed (lettersTest s) _ (b .1) in
+    let f = passed-firstFault Header 4 28 (outside s) _ (d .1) in
+    let g = passed-firstFault Rule 0 60 (broken s) _ (f .1) in
     record {
       length = eqb-true _ _ (not-false _ (a .0));
       check = eqb-true _ _ (not-false _ (b .0));

@@ -45,48 +45,47 @@ abbrev pub meaning : Answer → ℕ × ℕ
 meaning Accepted = (0, 0)
 meaning (Refused r) = (numberOf r, placeOf r)
 
--- a test, one for each number of the table: its number, whether the refusal is given, its place
+-- a test, one for each number of the table: the reason of its refusal, and whether the refusal is given
 pub record Test : Type 0 where
-  pub number : ℕ
+  pub reason : Reason
   pub given : Bool
-  pub place : ℕ
 
--- the test of a number, whether its refusal is given, and its place
-abbrev pub test : ℕ → Bool → ℕ → Test
-test k g p = record { number = k; given = g; place = p }
+-- the test of a reason, and whether its refusal is given
+abbrev pub test : Reason → Bool → Test
+test r g = record { reason = r; given = g }
 
 -- a test whose place is the first from a on and below b at which there is a fault
-abbrev pub firstFault : ℕ → ℕ → ℕ → (ℕ → Bool) → Test
-firstFault k a b fault = test k (ltb (least a b fault) b) (least a b fault)
+abbrev pub firstFault : (ℕ → Reason) → ℕ → ℕ → (ℕ → Bool) → Test
+firstFault why a b fault = test (why (least a b fault)) (ltb (least a b fault) b)
 
 -- number and place of the first refusal that is given; 0 and 0 where none is
 unfoldable pub verdict : List Test → ℕ × ℕ
 verdict [] = (0, 0)
-verdict (t ∷ ts) = pick (t .given) (t .number, t .place) (verdict ts)
+verdict (t ∷ ts) = pick (t .given) (numberOf (t .reason), placeOf (t .reason)) (verdict ts)
 
 -- "1 | record not 512 bytes | 0"
 unfoldable pub lengthTest : List ℕ → Test
-lengthTest s = test 1 (not (eqb (length s) 512)) 0
+lengthTest s = test Length (not (eqb (length s) 512))
 
 -- "2 | check differs | 0"
 unfoldable pub checkTest : List ℕ → Test
-checkTest s = test 2 (not (eqb (checkOf s) (little 4 s 508))) 0
+checkTest s = test Check (not (eqb (checkOf s) (little 4 s 508)))
 
 -- "3 | letters differ | 0"
 unfoldable pub lettersTest : List ℕ → Test
-lettersTest s = test 3 (ltb (least 0 4 (outside s)) 4) 0
+lettersTest s = test Letters (ltb (least 0 4 (outside s)) 4)
 
 -- "4 | header byte 4–27 outside its range | lowest such byte"
 unfoldable pub headerTest : List ℕ → Test
-headerTest s = firstFault 4 4 28 (outside s)
+headerTest s = firstFault Header 4 28 (outside s)
 
 -- "5 | an entry breaks its rule | lowest such entry, 0–59"
 unfoldable pub entryTest : List ℕ → Test
-entryTest s = firstFault 5 0 60 (broken s)
+entryTest s = firstFault Rule 0 60 (broken s)
 
 -- "6 | output length wrong | 0"
 unfoldable pub outputTest : Bool → Test
-outputTest right = test 6 (not right) 0
+outputTest right = test Output (not right)
 
 -- "Each operation makes the tests that its inputs have": a byte string is tested by 1 to 5
 unfoldable pub readTests : List ℕ → List Test

@@ -1,10 +1,10 @@
 -- "Block record, 512 bytes": the ranges of the header bytes, and the rule of an entry.
 use Prim.Native.Nat.{ℕ, _+_, _*_}
-use mathlib.Core.Bool.{Bool, _&&_, _||_, not}
+use mathlib.Core.Bool.{Bool, true, _||_, not}
 use mathlib.Core.List.{List, [], _∷_, _++_, map}
 use lib.ListN.{getD, replicate}
 use lib.Dec.{leb, ltb, eqb}
-use Rattle.lists.specs.Lists.{pick}
+use Rattle.lists.specs.Lists.{pick, tab, exists}
 use Rattle.lists.specs.Bytes.{ascii}
 
 -- bytes that have one allowed value each
@@ -67,21 +67,33 @@ register r = leb r 63 || eqb r 255
 unfoldable pub kind : ℕ → Bool
 kind k = leb k 3
 
--- the rule of the eight bytes x 0 to x 7 of an entry: kind; lo at least 1; hi at least lo; the register written; the two
--- read; two zeros
-unfoldable pub used : (ℕ → ℕ) → Bool
-used x =
-    kind (x 0) && leb 1 (x 1) && leb (x 1) (x 2) && register (x 3) && register (x 4) && register (x 5) && eqb (x 6) 0 && eqb (x 7) 0
+-- the rules of the eight bytes x 0 to x 7 of an entry below n, each in its byte's place
+unfoldable pub usedBytes : (ℕ → ℕ) → List Bool
+usedBytes x =
+    -- "unit kind"
+    kind (x 0)
+    -- "1 lowest latency lo, at least 1"
+    ∷ leb 1 (x 1)
+    -- "2 highest latency hi, at least lo"
+    ∷ leb (x 1) (x 2)
+    -- "3 register written"
+    ∷ register (x 3)
+    -- "4 and 5 registers read"
+    ∷ register (x 4)
+    ∷ register (x 5)
+    -- "6 and 7 zero"
+    ∷ eqb (x 6) 0
+    ∷ eqb (x 7) 0
+    ∷ []
 
 -- "Entries from n on are all zero"
-unfoldable pub unused : (ℕ → ℕ) → Bool
-unused x =
-    eqb (x 0) 0 && eqb (x 1) 0 && eqb (x 2) 0 && eqb (x 3) 0 && eqb (x 4) 0 && eqb (x 5) 0 && eqb (x 6) 0 && eqb (x 7) 0
+unfoldable pub unusedBytes : (ℕ → ℕ) → List Bool
+unusedBytes x = tab 8 (λ k. eqb (x k) 0)
 
--- the rule of entry i where there are n instructions
-unfoldable pub rule : ℕ → ℕ → (ℕ → ℕ) → Bool
-rule n i x = pick (ltb i n) (used x) (unused x)
+-- byte k of entry i, whose eight bytes are x, breaks its rule where there are n instructions
+unfoldable pub wrongByte : ℕ → ℕ → (ℕ → ℕ) → ℕ → Bool
+wrongByte n i x k = not (getD (pick (ltb i n) (usedBytes x) (unusedBytes x)) k true)
 
--- entry i of a record breaks its rule
+-- entry i of a record breaks its rule: some byte of it does
 unfoldable pub broken : List ℕ → ℕ → Bool
-broken s i = not (rule (getD s 4 0) i (entryByte s i))
+broken s i = exists 0 8 (wrongByte (getD s 4 0) i (entryByte s i))

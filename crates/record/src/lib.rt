@@ -1,17 +1,15 @@
-// The block record: its value, its refusals, its check, its reader and its writer.
+// The block record: its value, its rules, its check and its refusals.
 mod check;
-mod reader;
 mod reasons;
 mod rules;
-mod writer;
 
+pub use check::check_of;
+pub use check::four_at;
 pub use check::seal;
-pub use reader::read;
 pub use reasons::number_of;
 pub use reasons::place_of;
-pub use writer::block_answer;
-pub use writer::put_head;
-pub use writer::write;
+pub use rules::entry_ok;
+pub use rules::header_fault;
 
 // The bytes of an entry in its record.
 pub const KIND: usize = 0;

@@ -1,10 +1,11 @@
 // The rules of the header bytes and of an entry.
 ghost use mathlib.Core.Path.{_≡_};
+ghost use mathlib.Core.Bool.{not};
 ghost use Prim.Native.Nat.{_≤_};
 ghost use lib.ListN.{length};
 ghost use Rattle.lists.specs.Lists.{least};
-ghost use Rattle.record.specs.Rules.{outside, register, kind, used, unused, rule};
-ghost use Rattle.record.specs.inside.EntryBytes.{byteOf};
+ghost use Rattle.record.specs.Rules.{outside, register, kind, usedBytes, unusedBytes};
+ghost use Rattle.record.specs.inside.EntryBytes.{byteOf, someBroken, wrongEntry};
 use crate::Entry;
 
 // The lowest and the highest allowed value of each header byte.
@@ -123,7 +124,7 @@ fn is_register(r: u8) -> bool
 }
 
 fn used_ok(e: Entry) -> bool
-    ensures { λ t. ⌜ t ≡ used (byteOf e) ⌝ }
+    ensures { λ t. ⌜ not t ≡ someBroken (usedBytes (byteOf e)) ⌝ }
 {
     let k = is_kind(e.kind);
     let w = is_register(e.writes);
@@ -133,14 +134,14 @@ fn used_ok(e: Entry) -> bool
 }
 
 fn unused_ok(e: Entry) -> bool
-    ensures { λ t. ⌜ t ≡ unused (byteOf e) ⌝ }
+    ensures { λ t. ⌜ not t ≡ someBroken (unusedBytes (byteOf e)) ⌝ }
 {
     (e.kind == 0) & (e.lo == 0) & (e.hi == 0) & (e.writes == 0) & (e.reads1 == 0) & (e.reads2 == 0)
 }
 
 // Whether entry i keeps its rule where there are n instructions.
 pub fn entry_ok(n: u8, i: usize, e: Entry) -> bool
-    ensures { λ t. ⌜ t ≡ rule n i (byteOf e) ⌝ }
+    ensures { λ t. ⌜ not t ≡ wrongEntry n i e ⌝ }
 {
     if i < n as usize {
         used_ok(e)

@@ -1,7 +1,6 @@
 pub mod Examples
 pub mod TextsInOrder
 pub mod Digits
-pub mod ResultCounts
 pub mod RecordLine
 pub mod ArchiveRecords
 pub mod ArchivePieces

@@ -10,7 +10,8 @@ use lib.Seq.{length-take-le, sets-eq}
 use Rattle.io.specs.Counts.{Counts}
 use Rattle.lists.specs.Lists.{joined, put}
 use Rattle.lists.proofs.JoinedPieces.{put-next}
-use Rattle.report_lines.specs.Text.{decimal, spaced}
+use Rattle.report_lines.specs.Text.{spaced}
+use Rattle.report_lines.specs.inside.TextSteps.{Puts}
 
 module _ (o : List ℕ) (i : ℕ) (xs : List ℕ) where
   length-front : i ≤ length o → length (take i o ++ xs) ≡ i + length xs
@@ -64,13 +65,28 @@ more-fields {o} {x} {p} {y} {q} {ys} {i} {j} l f g =
       text = g .text ∙ rw (f .text, ← e) (put-put o i (x ++ (32 ∷ [])) (spaced (y ∷ ys)) j l (f .next));
     }
 
--- a number that is put is its text
-pub number-field : {o p : List ℕ} {i j : ℕ} (x y end : ℕ) → y ≡ x → j ≡ i + length (decimal y ++ (end ∷ [])) → p ≡ put o i (decimal y ++ (end ∷ []))
-    → Field o i (decimal x) end p j
-number-field x y end e n t = record { next = rw (← e) n; text = rw (← e) t }
+-- a field from what was put, and what was put from fields
+pub field-put : {o p x : List ℕ} {i j most : ℕ} (end : ℕ) → Puts (x ++ (end ∷ [])) o i most j p → Field o i x end p j
+field-put end f = record { next = f .next; text = f .output }
+
+pub fields-put : {o p : List ℕ} {xs : List (List ℕ)} {i j most : ℕ} → Fields o i xs p j → j ≤ i + most → Puts (spaced xs) o i most j p
+fields-put f few = record { next = f .next; few = few; output = f .text }
+
+-- the same text under another name, and with more room
+pub puts-as : {x y o p : List ℕ} {i j most : ℕ} → x ≡ y → Puts y o i most j p → Puts x o i most j p
+puts-as e f = rw e f
+
+pub puts-more : {x y o p : List ℕ} {i j most more : ℕ} → x ≡ y → most ≤ more → Puts y o i most j p → Puts x o i more j p
+puts-more e l f = rw e (record { next = f .next; few = omega (arith, f .few); output = f .output })
+
+-- one byte behind a text that was put
+pub ended : (o : List ℕ) (i : ℕ) (xs : List ℕ) (e j : ℕ) (p : List ℕ) → Puts xs o i (length xs) j p → i + length xs < length o
+    → set p j e ≡ put o i (xs ++ (e ∷ []))
+ended o i xs e j p f l = rw (f .output) (put-end o i xs e j l (f .next))
 
 -- k texts one after the other from the start of o, and one more behind them
-pub texts-more : (f : ℕ → List ℕ) (o p q x : List ℕ) (k i j : ℕ) → x ≡ f k → i ≡ length (joined k f) → p ≡ put o 0 (joined k f) → j ≡ i + length x → q ≡ put p i x
+pub texts-more : (f : ℕ → List ℕ) (o p q x : List ℕ) (k i j : ℕ) → x ≡ f k → i ≡ length (joined k f) → p ≡ put o 0 (joined k f)
+    → j ≡ i + length x → q ≡ put p i x
     → (j ≡ length (joined (k + 1) f)) × (q ≡ put o 0 (joined (k + 1) f))
 unfolding joined
 texts-more f o p q x k i j e n t m u =

@@ -9,7 +9,8 @@ use Rattle.lists.specs.Bytes.{ascii}
 use Rattle.record.specs.Layout.{decoded}
 use Rattle.record.specs.Refusals.{readVerdict, accepts}
 use Rattle.record.specs.declared.Block.{Block}
-use Rattle.model.specs.Rounds.{bound, roundCount, pairCount, apartCount}
+use Rattle.analysis.specs.Result.{summaryOf}
+use Rattle.analysis.specs.declared.Summary.{Summary}
 use Rattle.report_lines.specs.Text.{decimal, spaced}
 
 -- "block origin n bound rounds pairs apart", a line
@@ -20,18 +21,22 @@ header = ascii "block origin n bound rounds pairs apart\n"
 abbrev pub letter : ℕ → ℕ
 letter origin = pick (eqb origin 1) (code "C") (code "P")
 
--- "per record: block number, origin (C or P), n, bound, rounds, pairs, apart"
-unfoldable pub blockLine : Block → List ℕ
-blockLine b =
+-- "per record: block number, origin (C or P), n, bound, rounds, pairs, apart": the line of what an analysis says
+unfoldable pub summaryLine : Summary → List ℕ
+summaryLine s =
     spaced
-    (decimal (b .number)
-    ∷ (letter (b .origin) ∷ [])
-    ∷ decimal (b .n)
-    ∷ decimal (bound b)
-    ∷ decimal (roundCount b)
-    ∷ decimal (pairCount b)
-    ∷ decimal (apartCount b)
+    (decimal (s .number)
+    ∷ (letter (s .origin) ∷ [])
+    ∷ decimal (s .n)
+    ∷ decimal (s .bound)
+    ∷ decimal (s .rounds)
+    ∷ decimal (s .pairs)
+    ∷ decimal (s .apart)
     ∷ [])
+
+-- the line of a block
+unfoldable pub blockLine : Block → List ℕ
+blockLine b = summaryLine (summaryOf b)
 
 -- "for a refusal, `at`, the record's index from 0, `refused`, its number"
 unfoldable pub refusalLine : ℕ → ℕ → List ℕ

@@ -1,1 +1,1 @@
-pub mod ResultText
+pub mod TextSteps

@@ -4,18 +4,14 @@ ghost use mathlib.Core.List.{_∷_};
 ghost use Prim.Native.Nat.{_+_, _*_, _≤_, min};
 ghost use lib.ListN.{length, take};
 ghost use Rattle.io.specs.Counts.{Counts};
-ghost use Rattle.lists.specs.Lists.{put};
-ghost use Rattle.lists.specs.Bytes.{ascii, little};
-ghost use Rattle.record.specs.Refusals.{blockVerdict};
-ghost use Rattle.record.specs.Promises.{Whole};
-ghost use Rattle.analysis.specs.Result.{result};
-ghost use Rattle.report_lines.specs.inside.ResultText.{countsText};
+ghost use Rattle.lists.specs.Bytes.{ascii};
 ghost use Rattle.report_lines.specs.Promises.{PutsText};
-ghost use Rattle.report_lines.specs.Report.{header as header·text, letter, blockLine, refusalLine, line, linesFrom};
+ghost use Rattle.report_lines.specs.Report.{header as header·text, letter, summaryLine, refusalLine, line, linesFrom};
+ghost use Rattle.report_lines.specs.inside.TextSteps.{Puts, countsText};
 use crate::fields::number_into;
 use crate::fields::text_into;
+use analysis::Summary;
 use record::Answer;
-use record::Block;
 
 // The header with its line end.
 pub fn header() -> [u8; 40]
@@ -33,8 +29,7 @@ fn letter_of(origin: u8) -> u8
 // Puts the letter of an origin and a space.
 fn origin_into(origin: u8, at: usize, out: &mut [u8]) -> usize
     requires { ⌜ at + 2 ≤ length (now out) ⌝ }
-    ensures { λ r. ⌜ r ≡ at + 2 ⌝ }
-    ensures { λ _. ⌜ now (out .exit) ≡ put (now (out .entry)) at (letter origin ∷ ascii " ") ⌝ }
+    ensures { λ r. ⌜ Puts (letter origin ∷ ascii " ") (now (out .entry)) at 2 r (now (out .exit)) ⌝ }
 {
     let x = letter_of(origin);
     out[at] = x;
@@ -42,60 +37,32 @@ fn origin_into(origin: u8, at: usize, out: &mut [u8]) -> usize
     at + 2
 }
 
-fn wide(x: u8) -> u64
-    ensures { λ r. ⌜ (r ≡ x) × (r ≤ 255) ⌝ }
-{
-    x as u64
-}
-
-// The number of two bytes.
-fn two_at(s: &[u8; 512], i: usize) -> u64
-    requires { ⌜ i + 2 ≤ 512 ⌝ }
-    ensures { λ r. ⌜ r ≡ little 2 (now (s .entry)) i ⌝ }
-{
-    wide(s[i]) + 256 * wide(s[i + 1])
-}
-
-// Puts bound, rounds, pairs and pairs apart of a result record.
-fn counts_into(s: &[u8; 512], at: usize, out: &mut [u8]) -> usize
+// Puts bound, rounds, pairs and pairs apart.
+fn counts_into(s: Summary, at: usize, out: &mut [u8]) -> usize
     requires { ⌜ at + 84 ≤ length (now out) ⌝ }
-    ensures { λ r. ⌜ (r ≡ at + length (countsText (now (s .entry)))) × (r ≤ at + 84) ⌝ }
-    ensures { λ _. ⌜ now (out .exit) ≡ put (now (out .entry)) at (countsText (now (s .entry))) ⌝ }
+    ensures { λ r. ⌜ Puts (countsText s) (now (out .entry)) at 84 r (now (out .exit)) ⌝ }
 {
-    let a1 = number_into(two_at(s, 6), b' ', at, out);
-    let a2 = number_into(two_at(s, 12), b' ', a1, out);
-    let a3 = number_into(two_at(s, 14), b' ', a2, out);
-    number_into(two_at(s, 16), b'\n', a3, out)
+    let a1 = number_into(s.bound as u64, b' ', at, out);
+    let a2 = number_into(s.rounds as u64, b' ', a1, out);
+    let a3 = number_into(s.pairs as u64, b' ', a2, out);
+    number_into(s.apart as u64, b'\n', a3, out)
 }
 
-// The result record of an accepted block. The promise also says what every block value is.
-fn result_of(b: Block) -> [u8; 512]
-    requires { ⌜ blockVerdict b ≡ (0, 0) ⌝ }
-    ensures { λ r. ⌜ (r ≡ result b) × Whole b ⌝ }
+// Puts the line of what an analysis says.
+fn summary_line_into(s: Summary, at: usize, out: &mut [u8]) -> usize
+    requires { ⌜ at + 128 ≤ length (now out) ⌝ }
+    ensures { λ r. ⌜ Puts (summaryLine s) (now (out .entry)) at 128 r (now (out .exit)) ⌝ }
 {
-    let mut s = [0u8; 512];
-    analysis::analyse(b, &mut s);
-    s
-}
-
-// Puts the line of an accepted block.
-fn block_into(b: Block, at: usize, out: &mut [u8]) -> usize
-    requires { ⌜ (blockVerdict b ≡ (0, 0)) × (at + 128 ≤ length (now out)) ⌝ }
-    ensures { λ r. ⌜ (r ≡ at + length (blockLine b)) × (r ≤ at + 128) ⌝ }
-    ensures { λ _. ⌜ now (out .exit) ≡ put (now (out .entry)) at (blockLine b) ⌝ }
-{
-    let s = result_of(b);
-    let a1 = number_into(b.number as u64, b' ', at, out);
-    let a2 = origin_into(b.origin, a1, out);
-    let a3 = number_into(b.n as u64, b' ', a2, out);
-    counts_into(&s, a3, out)
+    let a1 = number_into(s.number as u64, b' ', at, out);
+    let a2 = origin_into(s.origin, a1, out);
+    let a3 = number_into(s.n as u64, b' ', a2, out);
+    counts_into(s, a3, out)
 }
 
 // Puts the line of a refusal.
 fn refusal_into(index: u64, number: u8, at: usize, out: &mut [u8]) -> usize
     requires { ⌜ at + 53 ≤ length (now out) ⌝ }
-    ensures { λ r. ⌜ (r ≡ at + length (refusalLine index number)) × (r ≤ at + 53) ⌝ }
-    ensures { λ _. ⌜ now (out .exit) ≡ put (now (out .entry)) at (refusalLine index number) ⌝ }
+    ensures { λ r. ⌜ Puts (refusalLine index number) (now (out .entry)) at 53 r (now (out .exit)) ⌝ }
 {
     let a1 = text_into(b"at ", at, out);
     let a2 = number_into(index, b' ', a1, out);
@@ -106,14 +73,13 @@ fn refusal_into(index: u64, number: u8, at: usize, out: &mut [u8]) -> usize
 // Puts the line of a byte string as the record at an index.
 fn line_at(s: &[u8], index: u64, at: usize, out: &mut [u8]) -> usize
     requires { ⌜ at + 128 ≤ length (now out) ⌝ }
-    ensures { λ r. ⌜ (r ≡ at + length (line index (now (s .entry)))) × (r ≤ at + 128) ⌝ }
-    ensures { λ _. ⌜ now (out .exit) ≡ put (now (out .entry)) at (line index (now (s .entry))) ⌝ }
+    ensures { λ r. ⌜ Puts (line index (now (s .entry))) (now (out .entry)) at 128 r (now (out .exit)) ⌝ }
 {
-    let r = record::read(s);
+    let r = reader::read(s);
     let answer = r.answer;
     let block = r.block;
     match answer {
-        Answer::Accepted => block_into(block, at, out),
+        Answer::Accepted => summary_line_into(analysis::summary_of(block), at, out),
         Answer::Refused(reason) => refusal_into(index, record::number_of(reason), at, out),
     }
 }
@@ -135,8 +101,7 @@ fn smaller(a: usize, b: usize) -> usize
 // Puts the lines of a piece, one of those that an archive is read in.
 fn piece_into(s: &[u8], piece: u32, out: &mut [u8; 16384]) -> usize
     requires { ⌜ length (now s) ≤ 65536 ⌝ }
-    ensures { λ r. ⌜ r ≡ length (linesFrom (128 * piece) (now (s .entry))) ⌝ }
-    ensures { λ _. ⌜ now (out .exit) ≡ put (now (out .entry)) 0 (linesFrom (128 * piece) (now (s .entry))) ⌝ }
+    ensures { λ r. ⌜ PutsText (linesFrom (128 * piece) (now (s .entry))) (now (out .entry)) r (now (out .exit)) ⌝ }
 {
     let first = 128 * (piece as u64);
     let count = (s.len() + 511) / 512;

@@ -1,9 +1,5 @@
 pub mod TimesFilled
 pub mod StageTimes
-pub mod LaterLatencies
 pub mod TimesTurn
-pub mod RowScan
-pub mod RowStore
-pub mod ChainTable
 pub mod RowsAfterRound
 pub mod RoundLoop

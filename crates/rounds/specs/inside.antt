@@ -1,2 +1,2 @@
-pub mod PairRows
 pub mod FiveStarts
+pub mod BlockTimes

@@ -1,34 +1,24 @@
 -- The net of an accepted block: its nodes, edges and units as the model has them. Lower limits of the latencies are left
 -- open. Assumes nothing.
-use Prim.Native.Nat.{ℕ, zero, suc, _+_, _*_, _≤_, _<_}
-use mathlib.Core.Path.{_≡_, refl, ap, _∙_}
-use mathlib.Core.Bool.{Bool, true, false}
+use Prim.Native.Nat.{ℕ, zero, suc, _+_, _*_, _-_, _≤_, _<_}
+use mathlib.Core.Path.{_≡_, refl, sym, ap, _∙_}
+use mathlib.Core.Bool.{Bool, false}
 use mathlib.Core.List.{List, [], _∷_, map, map-append}
 use native.Mathlib.Omega.{arith}
-use native.Mathlib.Numerals.{add-one}
-use lib.Dec.{T}
-use lib.ListN.{length}
+use native.Mathlib.Nat.{add-zero}
+use lib.ListN.{length, length-map}
 use borrow.Author.Tests.{ne-eqb}
-use Rattle.lists.specs.Lists.{In, pick, numbersWhere}
+use Rattle.lists.specs.Lists.{In, pick, numbersWhere, numbersWhereFrom}
+use Rattle.lists.proofs.Bools.{by-test}
 use Rattle.lists.proofs.Members.{in-map, map-in}
-use Rattle.lists.specs.Sums.{sum}
-use Rattle.lists.proofs.Sums.{largest-in, largest-most, sum-append}
-use Rattle.lists.proofs.NumbersWhereGrowth.{numbersWhere-none, numbersWhere-more}
+use Rattle.lists.proofs.Sums.{largest-in, largest-most}
+use Rattle.lists.proofs.NumbersWhere.{numbersWhere-split, numbersWhere-none, numbersWhere-more}
 use Rattle.record.specs.declared.Block.{Block}
 use Rattle.record.proofs.AcceptedRanges.{Ranges}
 use Rattle.model.specs.Nodes.{EX, nodes, node, stage, instruction, isEX, entry, highest, finishInto, orderInto}
 use Rattle.model.specs.Cycles.{start, finish, units, ready}
 use Rattle.model.proofs.Predecessors.{finish-below, order-below, order-off-EX}
-use Rattle.schedules.specs.inside.SumsBelow.{valueIf, sumBelow, countBelow}
 use Rattle.schedules.specs.inside.Nets.{Net, Done}
-
--- ---- a test that passes, said in two ways
-pub T-true : (t : Bool) → T t → t ≡ true
-T-true true h = refl
-T-true false h = absurd h
-
-pub true-T : (t : Bool) → t ≡ true → T t
-true-T t e = rw e tt
 
 -- ---- the net
 pub units-some : (b : Block) (k : ℕ) → 1 ≤ units b k
@@ -49,7 +39,7 @@ module _ (b : Block) (A : Ranges b) (lo : ℕ → ℕ) (pos : (v : ℕ) → v < 
         units = units b;
         fin-lt = finish-below b A;
         ord-lt = order-below b A;
-        ex-ord = λ u v t h. order-off-EX b u v h (T-true (isEX u) t);
+        ex-ord = λ u v t h. order-off-EX b u v h t;
         lo-pos = pos;
         units-pos = units-some b;
       }
@@ -75,59 +65,41 @@ module _ (b : Block) (A : Ranges b) (lo : ℕ → ℕ) (pos : (v : ℕ) → v < 
             (λ y i. let r = in-map (start s) y (orderInto b v) i in omega (arith, r .2, d .ord (r .0) (r .1))),
       )
 
--- ---- what is summed over nodes all of which are EX is summed over their instructions
-one-more : (t : Bool) (g : ℕ → ℕ) (k : ℕ) → sum (map g (pick t (k ∷ []) [])) ≡ valueIf t (g k)
-unfolding sum
-one-more true g k = omega arith
-one-more false g k = refl
-
-pub sum-more : (q : ℕ → Bool) (g : ℕ → ℕ) (n : ℕ) → sum (map g (numbersWhere 0 (suc n) q)) ≡ sum (map g (numbersWhere 0 n q)) + valueIf (q n) (g n)
-sum-more q g n =
-    rw (
-      ← add-one n,
-      numbersWhere-more q 0 n (omega arith),
-      map-append g (numbersWhere 0 n q) (pick (q n) (n ∷ []) []),
-      sum-append (map g (numbersWhere 0 n q)) (map g (pick (q n) (n ∷ []) [])),
-      one-more (q n) g n,
-    ) refl
-
--- what is summed over the numbers with a property is summed below n where they have it
-sum-where : (q : ℕ → Bool) (g : ℕ → ℕ) (n : ℕ) → sum (map g (numbersWhere 0 n q)) ≡ sumBelow n (λ j. valueIf (q j) (g j))
-unfolding sumBelow sum
-sum-where q g zero = rw numbersWhere-none refl
-sum-where q g (suc n) = omega (arith, sum-more q g n, sum-where q g n)
-
+-- ---- the nodes at which a test holds that holds of EX alone are those of their instructions
 module _ (p : ℕ → Bool) (only-EX : (u : ℕ) → isEX u ≡ false → p u ≡ false) where
-  module _ (f : ℕ → ℕ) where
-    none-off : (u : ℕ) → (stage u ≡ EX → ⊥) → valueIf (p u) (f u) ≡ 0
-    none-off u h = let e = only-EX u (ne-eqb (stage u) EX h) in rw e refl
+  -- the nodes of instruction m
+  nodes-of : (m : ℕ) → numbersWhere (5 * m) (5 * (m + 1)) p ≡ map (node EX) (pick (p (node EX m)) (m ∷ []) [])
+  unfolding numbersWhere numbersWhereFrom
+  nodes-of m =
+      let five : 5 * (m + 1) - 5 * m ≡ 5 = omega arith in
+      let ex : 5 * m + 2 ≡ suc (suc (5 * m)) = omega arith in
+      rw (
+        five,
+        off (5 * m) (λ q. omega arith),
+        off (suc (5 * m)) (λ q. omega arith),
+        off (suc (suc (suc (5 * m)))) (λ q. omega arith),
+        off (suc (suc (suc (suc (5 * m))))) (λ q. omega arith),
+        ex,
+      ) (by-test (p (suc (suc (5 * m)))) (λ t. rw (t, ex) refl) (λ t. rw t refl))
+    where
+      off : (u : ℕ) → (stage u ≡ EX → ⊥) → p u ≡ false
+      off u h = only-EX u (ne-eqb (stage u) EX h)
 
-    pub sum-EX : (n : ℕ) → sumBelow (5 * n) (λ u. valueIf (p u) (f u)) ≡ sum (map (λ j. f (node EX j)) (numbersWhere 0 n (λ j. p (node EX j))))
-    unfolding sumBelow sum
-    sum-EX zero = rw numbersWhere-none refl
-    sum-EX (suc n) =
-        let e : 5 * suc n ≡ suc (suc (suc (suc (suc (5 * n))))) = omega arith in
-        let m : 5 * n + 2 ≡ suc (suc (5 * n)) = omega arith in
-        let same = ap (λ (u : ℕ). valueIf (p u) (f u)) m in
-        rw e
-        omega (
-          arith,
-          sum-EX n,
-          sum-more (λ j. p (node EX j)) (λ j. f (node EX j)) n,
-          none-off (5 * n) (λ q. omega arith),
-          none-off (suc (5 * n)) (λ q. omega arith),
-          none-off (suc (suc (suc (5 * n)))) (λ q. omega arith),
-          none-off (suc (suc (suc (suc (5 * n))))) (λ q. omega arith),
-        )
+  nodes-from : (a k : ℕ) → numbersWhere (5 * a) (5 * (a + k)) p ≡ map (node EX) (numbersWhere a (a + k) (λ j. p (node EX j)))
+  nodes-from a zero = rw (add-zero a, numbersWhere-none p (5 * a), numbersWhere-none (λ j. p (node EX j)) a) refl
+  nodes-from a (suc k) =
+      let e : a + suc k ≡ a + k + 1 = omega arith in
+      rw (
+        e,
+        numbersWhere-split p (5 * a) (5 * (a + k)) (5 * (a + k + 1)) (omega arith) (omega arith),
+        nodes-from a k,
+        nodes-of (a + k),
+        numbersWhere-more (λ j. p (node EX j)) a (a + k) (omega arith),
+      ) (sym (map-append (node EX) (numbersWhere a (a + k) (λ j. p (node EX j))) _))
 
-  ones : (xs : List ℕ) → sum (map (λ j. 1) xs) ≡ length xs
-  unfolding sum
-  ones [] = refl
-  ones (x ∷ xs) = omega (arith, ones xs)
+  pub numbersWhere-EX : (a n : ℕ) → a ≤ n → numbersWhere (5 * a) (5 * n) p ≡ map (node EX) (numbersWhere a n (λ j. p (node EX j)))
+  numbersWhere-EX a n l = let e : n ≡ a + (n - a) = omega arith in rw e (nodes-from a (n - a))
 
-  pub count-EX : (n : ℕ) → countBelow (5 * n) p ≡ length (numbersWhere 0 n (λ j. p (node EX j)))
-  count-EX n = sum-EX (λ u. 1) n ∙ ones (numbersWhere 0 n (λ j. p (node EX j)))
-
-  -- and counted over them
-  pub count-instructions : (n : ℕ) → countBelow (5 * n) p ≡ countBelow n (λ j. p (node EX j))
-  count-instructions n = sum-EX (λ u. 1) n ∙ sum-where (λ j. p (node EX j)) (λ j. 1) n
+  -- so they are as many
+  pub count-EX : (n : ℕ) → length (numbersWhere 0 (5 * n) p) ≡ length (numbersWhere 0 n (λ j. p (node EX j)))
+  count-EX n = ap length (numbersWhere-EX 0 n (omega arith)) ∙ length-map (numbersWhere 0 n (λ j. p (node EX j))) (node EX)

@@ -3,19 +3,19 @@
 -- start at t, ready and with a unit, starts then if all others that S has not are behind it. With it, S is such a set again.
 -- Assumes nothing.
 use Prim.Native.Nat.{ℕ, zero, suc, _+_, _≤_, _<_, max}
-use mathlib.Core.Path.{_≡_, refl, sym, _∙_}
+use mathlib.Core.Path.{_≡_, refl, sym, ap, _∙_}
 use mathlib.Core.Bool.{Bool, true, false, _&&_, false≢true}
 use mathlib.Core.Logic.{_⊎_, ⊎-elim}
 use native.Mathlib.Omega.{arith}
 use native.Mathlib.Decide.{decLe}
-use lib.Dec.{T, ltb, eqb, eqb→eq}
+use lib.Dec.{ltb, eqb}
+use lib.ListN.{length}
 use borrow.Author.Tests.{eqb-true, eqb-false}
-use Rattle.lists.proofs.Bools.{by-test}
-use Rattle.schedules.specs.inside.SumsBelow.{valueIf}
+use Rattle.lists.specs.Lists.{pick}
+use Rattle.lists.proofs.Bools.{by-test, and-left, and-right, and-both}
+use Rattle.lists.proofs.NumbersWhere.{numbersWhere-quiet, numbersWhere-ext, length-but-one, length-fewer}
 use Rattle.schedules.specs.inside.Executions.{Work, Sooner, runsAt, Served, held, Front, FreeFrom, Fixes}
-use Rattle.schedules.proofs.Counting.{count-mono, count-same, count-one-more, count-zero}
-use Rattle.schedules.proofs.NetLaws.{and-left, and-right, and-both, tie-begun, tie-le, le-tie}
-use Rattle.schedules.proofs.BlockNet.{T-true, true-T}
+use Rattle.schedules.proofs.NetLaws.{tie-begun, tie-le, le-tie}
 
 -- ---- what runs beside i at t, and what S has that finishes after t
 
@@ -25,24 +25,24 @@ holds W S k t j = S j && (eqb (W .kind j) k && ltb t (W .start j + W .lat j))
 
 module _ (W : Work) (S : ℕ → Bool) (i t j : ℕ) where
   -- what S has that finishes after t runs at t, if it starts sooner than i would at t
-  held-runs : T (holds W S (W .kind i) t j) → (S j ≡ true → W .kind j ≡ W .kind i → Sooner W j t i) → T (runsAt W i t j)
+  held-runs : holds W S (W .kind i) t j ≡ true → (S j ≡ true → W .kind j ≡ W .kind i → Sooner W j t i) → runsAt W i t j ≡ true
   unfolding runsAt
   held-runs h sooner =
       let r = and-right (S j) _ h in
       let k = and-left (eqb (W .kind j) (W .kind i)) _ r in
-      let s = sooner (T-true (S j) (and-left (S j) _ h)) (eqb→eq _ _ k) in
+      let s = sooner (and-left (S j) _ h) (eqb-true _ _ k) in
       and-both (eqb (W .kind j) (W .kind i)) _ k
       (and-both (ltb t (W .start j + W .lat j)) _ (and-right (eqb (W .kind j) (W .kind i)) _ r) (le-tie j i (W .start j) t (s .begun) (s .tie)))
 
   -- what runs at t starts sooner than i would at t, and finishes after t
-  runs-held : T (runsAt W i t j) → (W .kind j ≡ W .kind i → Sooner W j t i → S j ≡ true) → T (holds W S (W .kind i) t j)
+  runs-held : runsAt W i t j ≡ true → (W .kind j ≡ W .kind i → Sooner W j t i → S j ≡ true) → holds W S (W .kind i) t j ≡ true
   unfolding runsAt
   runs-held h has =
       let k = and-left (eqb (W .kind j) (W .kind i)) _ h in
       let r = and-right (eqb (W .kind j) (W .kind i)) _ h in
       let q = and-right (ltb t (W .start j + W .lat j)) _ r in
       let s : Sooner W j t i = record { begun = tie-begun j i (W .start j) t q; tie = tie-le j i (W .start j) t q } in
-      and-both (S j) _ (true-T (S j) (has (eqb→eq _ _ k) s))
+      and-both (S j) _ (has (eqb-true _ _ k) s)
       (and-both (eqb (W .kind j) (W .kind i)) _ k (and-left (ltb t (W .start j + W .lat j)) _ r))
 
 -- ---- the next of a kind
@@ -61,8 +61,8 @@ module _ (W : Work) (P : Served W) (S : ℕ → Bool) (F : Front W S) (H : ℕ) 
       (omega (
         arith,
         P .room i l,
-        count-mono (W .n) (holds W S (W .kind i) (W .start i)) (runsAt W i (W .start i))
-            (λ j g h. held-runs W S i (W .start i) j h (λ on k. F .each j i g l k on off)),
+        length-fewer (holds W S (W .kind i) (W .start i)) (runsAt W i (W .start i)) 0 (W .n)
+            (λ j _ g h. held-runs W S i (W .start i) j h (λ on k. F .each j i g l k on off)),
       ))
 
   -- WHAT IS READY STARTS ONCE S LEAVES A UNIT, IF S HAS ALL OF ITS KIND THAT START SOONER. Else all units are taken when it has
@@ -78,7 +78,7 @@ module _ (W : Work) (P : Served W) (S : ℕ → Bool) (F : Front W S) (H : ℕ) 
           omega (
             arith,
             P .waits i t l ready (omega arith),
-            count-mono (W .n) (runsAt W i t) (holds W S (W .kind i) t) (λ j g r. runs-held W S i t j r (has j g)),
+            length-fewer (runsAt W i t) (holds W S (W .kind i) t) 0 (W .n) (λ j _ g r. runs-held W S i t j r (has j g)),
           )
 
   -- ONE THAT CAN START AT t, AND NOT BEFORE, STARTS THEN, IF ALL OF ITS KIND THAT S HAS NOT ARE BEHIND IT. What starts sooner than
@@ -102,7 +102,8 @@ module _ (W : Work) (P : Served W) (S : ℕ → Bool) (F : Front W S) (H : ℕ) 
 
   -- THE OLDEST THAT S HAS NOT STARTS AS SOON AS S LEAVES A UNIT, IF IT IS READY BY THEN. None of its kind that S has not starts
   -- before that time, and none stands before it
-  pub oldest : (i e : ℕ) → i < W .n → S i ≡ false → ((j : ℕ) → j < i → S j ≡ true) → FreeFrom W S H (W .kind i) e → W .ready i ≤ e → Fixes W S i e
+  pub oldest : (i e : ℕ) → i < W .n → S i ≡ false → ((j : ℕ) → j < i → S j ≡ true) → FreeFrom W S H (W .kind i) e
+      → W .ready i ≤ e → Fixes W S i e
   oldest i e l off first free ready =
       starts-then i e e l free ready (omega arith) (late i e l off free)
       (λ j g k out. (late j e g out (rw k free), λ h. absurd (false≢true (sym out ∙ first j h))))
@@ -132,7 +133,7 @@ module _ (W : Work) (S S' : ℕ → Bool) where
     -- and holds as many
     pub held-same : (k t : ℕ) → held W S' k t ≡ held W S k t
     unfolding held
-    held-same k t = count-same (W .n) (holds W S' k t) (holds W S k t) (λ j l. rw (same j l) refl)
+    held-same k t = ap length (numbersWhere-ext (holds W S' k t) (holds W S k t) 0 (W .n) (λ j _ l. rw (same j l) refl))
 
   -- with the next of its kind, S is in front again
   pub front-more : (i t : ℕ) → Front W S → Fixes W S i t → S' i ≡ true → ((j : ℕ) → j < W .n → (j ≡ i → ⊥) → S' j ≡ S j) → Front W S'
@@ -148,10 +149,11 @@ module _ (W : Work) (S S' : ℕ → Bool) where
 
   -- and holds that one more until it has finished
   pub held-more : (i : ℕ) → i < W .n → S i ≡ false → S' i ≡ true → ((j : ℕ) → j < W .n → (j ≡ i → ⊥) → S' j ≡ S j) → (k t : ℕ)
-      → held W S' k t ≡ held W S k t + valueIf (eqb (W .kind i) k && ltb t (W .start i + W .lat i)) 1
+      → held W S' k t ≡ held W S k t + pick (eqb (W .kind i) k && ltb t (W .start i + W .lat i)) 1 0
   unfolding held
   held-more i l off on same k t =
-      rw on at (count-one-more (W .n) (holds W S k t) (holds W S' k t) i l (rw off refl) (λ j g ne. rw (same j g ne) refl))
+      rw on at
+      (length-but-one (holds W S' k t) (holds W S k t) 0 i (W .n) (omega arith) l (rw off refl) (λ j _ g ne. rw (same j g ne) refl))
 
 module _ (W : Work) (S : ℕ → Bool) (none : (j : ℕ) → j < W .n → S j ≡ false) where
   -- a set of none is in front
@@ -161,4 +163,4 @@ module _ (W : Work) (S : ℕ → Bool) (none : (j : ℕ) → j < W .n → S j �
   -- and holds nothing
   pub held-none : (k t : ℕ) → held W S k t ≡ 0
   unfolding held
-  held-none k t = count-same (W .n) (holds W S k t) (λ j. false) (λ j l. rw (none j l) refl) ∙ count-zero (W .n)
+  held-none k t = ap length (numbersWhere-quiet (holds W S k t) 0 (W .n) (λ j _ l. rw (none j l) refl))

@@ -16,16 +16,15 @@ use lib.ListN.{length}
 use borrow.Author.Tests.{lt-ltb, ltb-true, le-leb, leb-true, eq-eqb, eqb-true}
 use Rattle.lists.specs.Lists.{pick, numbersWhere}
 use Rattle.lists.proofs.Bools.{and-left, and-right, and-both, same-test}
-use Rattle.lists.proofs.NumbersWhereGrowth.{numbersWhere-ext}
+use Rattle.lists.proofs.NumbersWhere.{numbersWhere-ext}
 use Rattle.record.specs.declared.Block.{Block}
 use Rattle.record.proofs.AcceptedRanges.{Ranges}
 use Rattle.model.specs.Nodes.{EX, nodes, node, stage, instruction, isEX, entry}
 use Rattle.model.specs.Cycles.{notStarted, start, started, finish, runs, units, free, turns}
-use Rattle.schedules.specs.inside.SumsBelow.{countBelow}
-use Rattle.schedules.specs.inside.Nets.{Net, busy, Busy}
+use Rattle.schedules.specs.inside.Nets.{Net, busy, countBusy, Busy}
 use Rattle.schedules.proofs.NetLaws.{busy→, →busy}
 use Rattle.schedules.proofs.ScheduleStep.{May, Next}
-use Rattle.schedules.proofs.BlockNet.{T-true, true-T, net, count-EX}
+use Rattle.schedules.proofs.BlockNet.{net, count-EX}
 use Rattle.schedules.proofs.CycleTurns.{started-yes, started-not, unstarted, unstarted-start, seen, Known, begun, turns-length, turns-later, turns-below, Begins, begins-means, means-begins}
 
 -- ---- one cycle
@@ -120,22 +119,21 @@ module _ (b : Block) (A : Ranges b) (lo : ℕ → ℕ) (pos : (v : ℕ) → v < 
         let q = now-after w lw x in
         let i : (5 * j + 2) / 5 ≡ j = omega arith in
         let g : (5 * j + 2) % 5 ≡ 2 = omega arith in
-        T-true _
-        (→busy G lat next v H w
+        →busy G lat next v H w
         (record {
-          ex = true-T (isEX w) (eq-eqb (stage w) EX g);
+          ex = eq-eqb (stage w) EX g;
           same = ap kindOf i ∙ eqb-true _ _ (and-left _ (runs lat H (now v) j) e);
           runs = omega (arith, q .0);
           begun = omega (arith, q .0);
           tie = λ o. omega (arith, q .1 o);
-        }))
+        })
 
     busy-working : (j : ℕ) → j < b .n → busy G lat next v H (node EX j) ≡ true → working j ≡ true
     unfolding runs finish
     busy-working j h e =
         let w : ℕ = node EX j in
         let lw : w < nodes b = omega arith in
-        let u : Busy G lat next v H w = busy→ G lat next v H w (true-T _ e) in
+        let u : Busy G lat next v H w = busy→ G lat next v H w e in
         let q = after-now w lw (λ o. omega (arith, u .tie o)) in
         let i : (5 * j + 2) / 5 ≡ j = omega arith in
         let x : start (now v) w ≤ H = omega (arith, u .begun) in
@@ -149,7 +147,7 @@ module _ (b : Block) (A : Ranges b) (lo : ℕ → ℕ) (pos : (v : ℕ) → v < 
     unfolding busy
     busy-off u e = rw e refl
 
-    same-count : countBelow (nodes b) (busy G lat next v H) ≡ length (numbersWhere 0 (b .n) working)
+    same-count : countBusy G lat next v H ≡ length (numbersWhere 0 (b .n) working)
     same-count =
         count-EX (busy G lat next v H) busy-off (b .n)
         ∙ ap length (numbersWhere-ext (λ j. busy G lat next v H (node EX j)) working 0 (b .n) (λ j a h. same-test _ _ (busy-working j h) (working-busy j h)))
@@ -165,7 +163,7 @@ module _ (b : Block) (A : Ranges b) (lo : ℕ → ℕ) (pos : (v : ℕ) → v < 
             ord = λ u i. let o = G .ord-lt u v i in omega (arith, at-most u (omega arith) (started-not (now v) u (k .ordered u i)) (now-before u o));
           };
           unit = λ x.
-              omega (arith, same-count, ltb-true (length (numbersWhere 0 (b .n) working)) (units b (kindOf (instruction v))) (k .unit (T-true (isEX v) x)));
+              omega (arith, same-count, ltb-true (length (numbersWhere 0 (b .n) working)) (units b (kindOf (instruction v))) (k .unit x));
         }
       where
         at-most : (u : ℕ) → u < nodes b → (start (now v) u ≡ notStarted → ⊥) → start (now v) u ≡ start after u → start after u ≤ H
@@ -187,7 +185,7 @@ module _ (b : Block) (A : Ranges b) (lo : ℕ → ℕ) (pos : (v : ℕ) → v < 
           ordered = λ u i. let o = G .ord-lt u v i in let d = m .ready .ord u i in
               started-yes (now v) u (now-long v u (omega arith)) (omega (arith, now-before u o));
           unit = λ x.
-              lt-ltb (length (numbersWhere 0 (b .n) working)) (units b (kindOf (instruction v))) (omega (arith, same-count, m .unit (true-T (isEX v) x)));
+              lt-ltb (length (numbersWhere 0 (b .n) working)) (units b (kindOf (instruction v))) (omega (arith, same-count, m .unit x));
         })
 
   -- ONE CYCLE IS A STEP

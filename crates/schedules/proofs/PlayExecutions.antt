@@ -1,25 +1,25 @@
 -- The EX of every play, by instruction, are served as a schedule demands: none starts before it is ready, one that is ready and
 -- waits does so for all units of its kind, and one that starts has a unit. Off EX a node starts when it is ready. Assumes nothing.
 use Prim.Native.Nat.{ℕ, _≤_, _<_}
-use mathlib.Core.Path.{_≡_, refl, _∙_}
-use mathlib.Core.Bool.{false}
+use mathlib.Core.Path.{_≡_, refl, ap, _∙_}
+use mathlib.Core.Bool.{true, false}
 use mathlib.Core.List.{List}
 use native.Mathlib.Omega.{arith}
 use native.Mathlib.Decide.{decLe}
-use lib.Dec.{T, leb}
+use lib.Dec.{leb}
+use lib.ListN.{length}
 use borrow.Author.Tests.{leb-true, le-leb}
 use Rattle.lists.proofs.Bools.{same-test}
+use Rattle.lists.proofs.NumbersWhere.{numbersWhere-ext}
 use Rattle.record.specs.Refusals.{blockVerdict}
 use Rattle.record.specs.declared.Block.{Block}
 use Rattle.record.proofs.AcceptedRanges.{ranges}
-use Rattle.model.specs.Nodes.{EX, nodes, node, instruction, isEX, entry, latency, highest, chosen}
-use Rattle.model.specs.Cycles.{start, finish, ready, play}
+use Rattle.model.specs.Nodes.{EX, nodes, node, instruction, isEX, entry, fetch, highest, chosen}
+use Rattle.model.specs.Cycles.{mostCycles, start, finish, ready, play}
 use Rattle.model.proofs.Latencies.{stage-node, instruction-node, chosen-EX, latency-some, latency-mono}
-use Rattle.schedules.specs.inside.SumsBelow.{countBelow}
-use Rattle.schedules.specs.inside.Nets.{Net, Fits, Done, Sched, busy}
-use Rattle.schedules.specs.inside.Executions.{work, runsAt, Served, Fitting}
-use Rattle.schedules.proofs.Counting.{count-same}
-use Rattle.schedules.proofs.BlockNet.{ready-done, done-ready, count-instructions}
+use Rattle.schedules.specs.inside.Nets.{Net, Fits, Done, Sched, busy, countBusy}
+use Rattle.schedules.specs.inside.Executions.{work, runsAt, countRunning, Served, Fitting}
+use Rattle.schedules.proofs.BlockNet.{ready-done, done-ready, count-EX}
 use Rattle.schedules.proofs.PlayEnds.{limitNet, play-limit, play-started, play-sched}
 
 -- the EX of i stands before that of j as i does before j
@@ -37,15 +37,15 @@ module _ (b : Block) (z : blockVerdict b ≡ (0, 0)) (cap : (i : ℕ) → entry 
   unfolding chosen
   fitting-least v h =
       let i : instruction v < b .n = omega arith in
-      latency-some _ v (omega (arith, L .least (instruction v) i, ranges b z .instruction (instruction v) i .lo))
+      latency-some fetch _ v (omega arith) (omega (arith, L .least (instruction v) i, ranges b z .instruction (instruction v) i .lo))
 
   -- none is above the highest
   fitting-most : (v : ℕ) → v < nodes b → chosen b l v ≤ highest b v
   unfolding chosen highest
-  fitting-most v h = latency-mono _ _ v (L .most (instruction v) (omega arith))
+  fitting-most v h = latency-mono fetch _ _ v (L .most (instruction v) (omega arith))
 
-  -- no node finishes after 30,780 cycles
-  pub play-most : (v : ℕ) → v < nodes b → finish (chosen b l) (play b (chosen b l)) v ≤ 30780
+  -- no node finishes after 30,780
+  pub play-most : (v : ℕ) → v < nodes b → finish (chosen b l) (play b (chosen b l)) v ≤ mostCycles
   play-most v h = omega (arith, ranges b z .n .1, play-limit b z cap (chosen b l) fitting-least fitting-most v h)
 
   -- ---- the play as a schedule
@@ -58,10 +58,10 @@ module _ (b : Block) (z : blockVerdict b ≡ (0, 0)) (cap : (i : ℕ) → entry 
   fits : Fits G (chosen b l)
   fits = record { low = fitting-least; high = fitting-most }
 
-  sched : Sched G (chosen b l) 30780 (start s)
+  sched : Sched G (chosen b l) mostCycles (start s)
   sched = play-sched b z cap (λ v. 1) (λ v h. omega arith) (chosen b l) fits
 
-  started : (v : ℕ) → v < nodes b → start s v < 30780
+  started : (v : ℕ) → v < nodes b → start s v < mostCycles
   started = play-started b z cap (λ v. 1) (λ v h. omega arith) (chosen b l) fits
 
   -- a ready time as a fact of the net
@@ -78,7 +78,7 @@ module _ (b : Block) (z : blockVerdict b ≡ (0, 0)) (cap : (i : ℕ) → entry 
     where
       at-once : Dec (start s v ≤ ready b (chosen b l) s v) → start s v ≤ ready b (chosen b l) s v
       at-once (yes g) = g
-      at-once (no g) = absurd (sched .prompt v (ready b (chosen b l) s v) h (rw off tt) (omega arith) (ready-by v _ (omega arith)))
+      at-once (no g) = absurd (sched .prompt v (ready b (chosen b l) s v) h off (omega arith) (ready-by v _ (omega arith)))
 
   -- ---- what runs, by instruction
 
@@ -96,10 +96,11 @@ module _ (b : Block) (z : blockVerdict b ≡ (0, 0)) (cap : (i : ℕ) → entry 
   off-EX i t u e = rw e refl
 
   -- so as many EX run as instructions do
-  count-runs : (i t : ℕ) → countBelow (nodes b) (busy G (chosen b l) (start s) (node EX i) t) ≡ countBelow (b .n) (runsAt (work b l) i t)
+  count-runs : (i t : ℕ) → countBusy G (chosen b l) (start s) (node EX i) t ≡ countRunning (work b l) i t
   count-runs i t =
-      count-instructions (busy G (chosen b l) (start s) (node EX i) t) (off-EX i t) (b .n)
-      ∙ count-same (b .n) (λ j. busy G (chosen b l) (start s) (node EX i) t (node EX j)) (runsAt (work b l) i t) (λ j h. busy-runs i t j)
+      count-EX (busy G (chosen b l) (start s) (node EX i) t) (off-EX i t) (b .n)
+      ∙ ap length
+      (numbersWhere-ext (λ j. busy G (chosen b l) (start s) (node EX i) t (node EX j)) (runsAt (work b l) i t) 0 (b .n) (λ j _ h. busy-runs i t j))
 
   -- EVERY PLAY SERVES ITS EX
   pub served : Served (work b l)
@@ -107,10 +108,10 @@ module _ (b : Block) (z : blockVerdict b ≡ (0, 0)) (cap : (i : ℕ) → entry 
       record {
         ready = λ i h. ready-start (node EX i) (omega arith);
         waits = λ i t h r g.
-            let x : T (isEX (node EX i)) = rw (stage-node EX i (omega arith)) tt in
+            let x : isEX (node EX i) ≡ true = rw (stage-node EX i (omega arith)) refl in
             rw (instruction-node EX i (omega arith), count-runs i t) at (sched .waits (node EX i) t (omega arith) x g (ready-by (node EX i) t r));
         room = λ i h.
             let v : node EX i < nodes b = omega arith in
-            let x : T (isEX (node EX i)) = rw (stage-node EX i (omega arith)) tt in
+            let x : isEX (node EX i) ≡ true = rw (stage-node EX i (omega arith)) refl in
             rw (instruction-node EX i (omega arith), count-runs i (start s (node EX i))) at (sched .room (node EX i) v x (started (node EX i) v));
       }

@@ -15,13 +15,12 @@ use lib.ListN.{length, replicate, length-replicate, getD-replicate}
 use borrow.Author.Tests.{not-true, not-false}
 use Rattle.lists.proofs.Bools.{by-test}
 use Rattle.lists.proofs.Least.{exists-not, exists-none}
+use Rattle.lists.proofs.NumbersWhere.{length-fewer}
 use Rattle.record.specs.declared.Block.{Block}
 use Rattle.record.proofs.AcceptedRanges.{Ranges}
 use Rattle.model.specs.Nodes.{nodes}
 use Rattle.model.specs.Cycles.{State, notStarted, start, started, turns, cycle, firstState, allStarted, playOn}
-use Rattle.schedules.specs.inside.SumsBelow.{countBelow}
-use Rattle.schedules.specs.inside.Nets.{Net, Fits, Done, busy, Sched}
-use Rattle.schedules.proofs.Counting.{count-mono}
+use Rattle.schedules.specs.inside.Nets.{Net, Fits, Done, busy, countBusy, Sched}
 use Rattle.schedules.proofs.NetLaws.{busy→, →busy}
 use Rattle.schedules.proofs.ScheduleStep.{empty-sched, next-sched}
 use Rattle.schedules.proofs.BlockNet.{net}
@@ -41,10 +40,10 @@ module _ (G : Net) (lat : ℕ → ℕ) where
         ord = λ u i. let o = G .ord-lt u v i in omega (arith, d .ord u i, e u (omega arith));
       }
 
-  busy-same : (s r : ℕ → ℕ) → Same s r → (v t : ℕ) → countBelow (G .N) (busy G lat s v t) ≤ countBelow (G .N) (busy G lat r v t)
+  busy-same : (s r : ℕ → ℕ) → Same s r → (v t : ℕ) → countBusy G lat s v t ≤ countBusy G lat r v t
   busy-same s r e v t =
-      count-mono (G .N) (busy G lat s v t) (busy G lat r v t)
-      (λ u l h.
+      length-fewer (busy G lat s v t) (busy G lat r v t) 0 (G .N)
+      (λ u _ l h.
       let k = busy→ G lat s v t u h in
       let q = e u l in
       →busy G lat r v t u

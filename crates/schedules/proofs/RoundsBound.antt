@@ -1,22 +1,29 @@
 -- A round's latest times bound every schedule, and earliest times bound it from below. Assumes nothing.
 use Prim.Native.Nat.{ℕ, zero, suc, _+_, _*_, _-_, _/_, _≤_, _<_, max}
 use mathlib.Core.Path.{_≡_, refl, sym, ap, _∙_}
-use mathlib.Core.Bool.{Bool, true, false}
+use mathlib.Core.Bool.{Bool, true, false, not, _&&_, and-false}
+use mathlib.Core.List.{List, map}
 use mathlib.Core.Logic.{_⊎_, inl, inr, ⊎-elim}
 use native.Mathlib.Omega.{arith}
 use native.Mathlib.Decide.{decLe}
 use native.Mathlib.Nat.{le-div-iff-mul-le}
-use lib.Dec.{T, ltb, eqb, not-T, ltb→lt, lt→ltb, eqb→eq}
-use Rattle.schedules.specs.inside.SumsBelow.{valueIf, sumBelow, countBelow}
-use Rattle.schedules.specs.inside.Nets.{Net, Fits, Way, by-fin, by-ord, then-fin, then-ord, Done, busy, Busy, Sched}
-use Rattle.schedules.specs.inside.RoundInequalities.{Early, Separates, earlier, base, early-sum, early-last, other, Round, Bounded}
-use Rattle.schedules.proofs.Counting.{valueIf-on, valueIf-mono, sum-le, count-mono, count-find, max-ge, area}
-use Rattle.schedules.proofs.NetLaws.{done-mono, busy→, →busy, and-right, and-both}
+use lib.ListN.{length}
+use borrow.Author.Tests.{ne-eqb}
+use Rattle.lists.specs.Lists.{numbersWhere}
+use Rattle.lists.specs.inside.Kept.{kept}
+use Rattle.lists.specs.Sums.{sum}
+use Rattle.lists.proofs.Bools.{by-test}
+use Rattle.lists.proofs.Sums.{sum-mono}
+use Rattle.lists.proofs.NumbersWhere.{numbersWhere-back, numbersWhere-in, numbersWhere-find, largest-at, numbersWhere-ext, numbersWhere-kept, length-fewer}
+use Rattle.schedules.specs.inside.Nets.{Net, Fits, Way, by-fin, by-ord, then-fin, then-ord, Done, busy, countBusy, Busy, Sched}
+use Rattle.schedules.specs.inside.RoundInequalities.{Early, Separates, base, early-sum, early-last, other, Round, Bounded}
+use Rattle.schedules.proofs.Counting.{area}
+use Rattle.schedules.proofs.NetLaws.{done-mono, busy→, →busy}
 
 -- ---- a schedule of H cycles
 module _ (G : Net) (lat : ℕ → ℕ) (F : Fits G lat) (H : ℕ) (s : ℕ → ℕ) (P : Sched G lat H s) where
   -- what a node that is ready before the horizon waited for has finished
-  pub done-of-way : (u v x : ℕ) → v < G .N → T (G .ex u) → Way G u v → Done G lat s v x → x < H → s u + lat u ≤ x
+  pub done-of-way : (u v x : ℕ) → v < G .N → G .ex u ≡ true → Way G u v → Done G lat s v x → x < H → s u + lat u ≤ x
   done-of-way u v x l e (by-fin f) d h = d .fin u f
   done-of-way u v x l e (by-ord f) d h = absurd (G .ex-ord u v e f)
   done-of-way u v x l e (then-fin {x = y} w f) d h =
@@ -57,9 +64,9 @@ module _ (G : Net) (lat : ℕ → ℕ) (F : Fits G lat) (H : ℕ) (s : ℕ → �
 
 module _ (G : Net) (lat : ℕ → ℕ) (F : Fits G lat) (H : ℕ) (s : ℕ → ℕ) (P : Sched G lat H s)
     (ER : ℕ → ℕ) (A : Early G ER) (Apart : ℕ → ℕ → Type 0) (sep : Separates G lat s ER Apart) where
-  module _ (con late : ℕ → ℕ → Bool) (R LS LF : ℕ → ℕ) (Q : Round G ER Apart con late R LS LF) (v : ℕ) (l : v < G .N) (e : T (G .ex v)) where
+  module _ (con late : ℕ → ℕ → Bool) (R LS LF : ℕ → ℕ) (Q : Round G ER Apart con late R LS LF) (v : ℕ) (l : v < G .N) (e : G .ex v ≡ true) where
     -- what runs while v waits may delay it
-    busy-con : (t u : ℕ) → u < G .N → Done G lat s v t → t < s v → T (busy G lat s v t u) → T (con v u)
+    busy-con : (t u : ℕ) → u < G .N → Done G lat s v t → t < s v → busy G lat s v t u ≡ true → con v u ≡ true
     busy-con t u lu d w h = by-cover (Q .cover v u l lu e (b .ex) (b .same) two)
       where
         b : Busy G lat s v t u
@@ -68,13 +75,13 @@ module _ (G : Net) (lat : ℕ → ℕ) (F : Fits G lat) (H : ℕ) (s : ℕ → �
         th : t < H
         th = omega (arith, P .top v l)
 
-        two : T (other u v)
-        two = not-T (eqb u v) (λ q. omega (arith, ap s (eqb→eq u v q), b .begun))
+        two : other u v ≡ true
+        two = ap not (ne-eqb u v (λ q. omega (arith, ap s q, b .begun)))
 
         du : Done G lat s u (s u)
         du = P .ready u lu (omega (arith, b .begun, th))
 
-        by-cover : T (con v u) ⊎ (Way G u v ⊎ (Way G v u ⊎ Apart u v)) → T (con v u)
+        by-cover : (con v u ≡ true) ⊎ (Way G u v ⊎ (Way G v u ⊎ Apart u v)) → con v u ≡ true
         by-cover (inl c) = c
         by-cover (inr (inl p)) = absurd (omega (arith, done-of-way G lat F H s P u v t l (b .ex) p d th, b .runs))
         by-cover (inr (inr (inl p))) = absurd (omega (arith, done-of-way G lat F H s P v u (s u) lu e p du (omega (arith, b .begun, th)), b .begun))
@@ -85,8 +92,9 @@ module _ (G : Net) (lat : ℕ → ℕ) (F : Fits G lat) (H : ℕ) (s : ℕ → �
             (sep u v lu l a)
 
     -- a later one that runs while v waits started before v was ready
-    late-start : (t u : ℕ) → u < G .N → v ≤ u → t < s v → T (busy G lat s v t u) → Done G lat s v (s u) → ⊥
-    late-start t u lu o w h d = omega (arith, P .room u lu (b .ex) su, P .waits v (s u) l e (omega (arith, b .begun)) d, sub, ap (G .units) (b .same))
+    late-start : (t u : ℕ) → u < G .N → v ≤ u → t < s v → busy G lat s v t u ≡ true → Done G lat s v (s u) → ⊥
+    late-start t u lu o w h d =
+        omega (arith, P .room u lu (b .ex) su, P .waits v (s u) l e (omega (arith, b .begun)) d, sub, ap (G .units) (b .same))
       where
         b : Busy G lat s v t u
         b = busy→ G lat s v t u h
@@ -94,23 +102,24 @@ module _ (G : Net) (lat : ℕ → ℕ) (F : Fits G lat) (H : ℕ) (s : ℕ → �
         su : s u < H
         su = omega (arith, P .top v l, b .begun)
 
-        sub : countBelow (G .N) (busy G lat s v (s u)) ≤ countBelow (G .N) (busy G lat s u (s u))
+        sub : countBusy G lat s v (s u) ≤ countBusy G lat s u (s u)
         sub =
-            count-mono (G .N) (busy G lat s v (s u)) (busy G lat s u (s u))
-            (λ x lx k.
+            length-fewer (busy G lat s v (s u)) (busy G lat s u (s u)) 0 (G .N)
+            (λ x _ lx k.
             let c = busy→ G lat s v (s u) x k in
-            →busy G lat s u (s u) x (record { ex = c .ex; same = c .same ∙ sym (b .same); runs = c .runs; begun = c .begun; tie = λ y. c .tie (omega arith) }))
+            →busy G lat s u (s u) x
+            (record { ex = c .ex; same = c .same ∙ sym (b .same); runs = c .runs; begun = c .begun; tie = λ y. c .tie (omega arith) }))
 
     module _ (dR : Done G lat s v (R v)) where
       -- from `base` on only earlier ones run
-      busy-early : (t u : ℕ) → u < G .N → base G late R v ≤ t → t < s v → T (busy G lat s v t u) → T (earlier con v u)
+      busy-early : (t u : ℕ) → u < G .N → base G late R v ≤ t → t < s v → busy G lat s v t u ≡ true → (con v u ≡ true) × (u < v)
       unfolding base
-      busy-early t u lu g w h = and-both (con v u) _ c (lt→ltb u v (stands-before (decLe v u)))
+      busy-early t u lu g w h = (c, stands-before (decLe v u))
         where
           b : Busy G lat s v t u
           b = busy→ G lat s v t u h
 
-          c : T (con v u)
+          c : con v u ≡ true
           c = busy-con t u lu (done-mono G lat s v (R v) t (omega arith) dR) w h
 
           stands-before : Dec (v ≤ u) → u < v
@@ -124,7 +133,7 @@ module _ (G : Net) (lat : ℕ → ℕ) (F : Fits G lat) (H : ℕ) (s : ℕ → �
                   let er : ER u < R v = omega (arith, early-start G lat F H s P ER A u lu su) in
                   let ne : v < u = stands-after (decLe u v) in
                   let lt = Q .later v u l lu c ne er in
-                  omega (arith, b .runs, F .high u lu, max-ge (G .N) (λ i. valueIf (late v i) (G .hi i)) u lu, valueIf-on (late v u) (G .hi u) lt)
+                  omega (arith, b .runs, F .high u lu, largest-at (late v) (G .hi) (v + 1) (G .N) u (omega arith) lu lt)
                 where
                   stands-after : Dec (u ≤ v) → v < u
                   stands-after (no z) = omega arith
@@ -135,8 +144,20 @@ module _ (G : Net) (lat : ℕ → ℕ) (F : Fits G lat) (H : ℕ) (s : ℕ → �
       r-le-base = omega arith
 
       -- from `base` on all units are taken, at each time
-      taken : (t : ℕ) → R v ≤ t → t < s v → G .units (G .kind v) ≤ countBelow (G .N) (busy G lat s v t)
+      taken : (t : ℕ) → R v ≤ t → t < s v → G .units (G .kind v) ≤ countBusy G lat s v t
       taken t g h = P .waits v t l e h (done-mono G lat s v (R v) t g dR)
+
+      -- the earlier ones, and those of them that run
+      abbrev before : List ℕ
+      before = numbersWhere 0 v (con v)
+
+      busy-before : (t : ℕ) → base G late R v ≤ t → t < s v → numbersWhere 0 (G .N) (busy G lat s v t) ≡ kept (busy G lat s v t) before
+      busy-before t g h =
+          numbersWhere-back (busy G lat s v t) 0 v (G .N) (omega arith) (omega arith)
+          (λ u o lu. by-test (busy G lat s v t u) (λ y. absurd (omega (arith, busy-early t u lu g h y .1))) (λ f. f))
+          ∙ numbersWhere-ext (busy G lat s v t) (λ u. con v u && busy G lat s v t u) 0 v
+          (λ u _ o. by-test (busy G lat s v t u) (λ y. rw (y, busy-early t u (omega arith) g h y .0) refl) (λ f. rw (f, and-false (con v u)) refl))
+          ∙ numbersWhere-kept (con v) (busy G lat s v t) 0 v
 
       -- the wait is paid for by the earlier ones' latencies
       wait-sum : s v ≤ base G late R v + early-sum G con v / G .units (G .kind v)
@@ -145,43 +166,39 @@ module _ (G : Net) (lat : ℕ → ℕ) (F : Fits G lat) (H : ℕ) (s : ℕ → �
           let k : ℕ = s v - base G late R v in
           let m : ℕ = G .units (G .kind v) in
           let b : ℕ = base G late R v in
-          let paid : m * k ≤ sumBelow (G .N) (λ u. valueIf (earlier con v u) (lat u)) =
-          area (G .N) m b k (λ i u. busy G lat s v (b + i) u) s (λ u. valueIf (earlier con v u) (lat u))
-          (λ i h. taken (b + i) (omega (arith, r-le-base)) (omega arith))
-          (λ i u h lu t.
-          let x = busy→ G lat s v (b + i) u t in
-          let y = busy-early (b + i) u lu (omega arith) (omega arith) t in
-          (x .begun, rw (valueIf-on (earlier con v u) (lat u) y) (x .runs)))
+          let paid : m * k ≤ sum (map lat before) =
+          area (λ i u. busy G lat s v (b + i) u) before m b k s lat
+          (λ i h. rw (busy-before (b + i) (omega arith) (omega arith)) at (taken (b + i) (omega (arith, r-le-base)) (omega arith)))
+          (λ i u h lu t. let x = busy→ G lat s v (b + i) u t in (x .begun, x .runs))
           in
-          let most : sumBelow (G .N) (λ u. valueIf (earlier con v u) (lat u)) ≤ early-sum G con v =
-          sum-le (G .N) (λ u. valueIf (earlier con v u) (lat u)) _
-          (λ u lu. valueIf-mono (earlier con v u) (earlier con v u) (lat u) _ (λ t. t) (omega (arith, F .high u lu)))
+          let most : sum (map lat before) ≤ early-sum G con v =
+          sum-mono lat (G .hi) before (λ u i. F .high u (omega (arith, numbersWhere-in (con v) 0 v u i .1)))
           in
           let q : k ≤ early-sum G con v / m = le-div-iff-mul-le {k = m} {x = k} {y = early-sum G con v} (G .units-pos (G .kind v)) .1 (omega arith) in
           omega arith
 
-      wait-last : ((u : ℕ) → u < v → s u + lat u ≤ LF u) → s v ≤ max (base G late R v) (early-last G con LF v)
+      wait-last : ((u : ℕ) → u < v → s u + lat u ≤ LF u) → s v ≤ max (base G late R v) (early-last con LF v)
       unfolding early-last
       wait-last ih = by-wait (decLe (s v) (base G late R v))
         where
-          by-wait : Dec (s v ≤ base G late R v) → s v ≤ max (base G late R v) (early-last G con LF v)
+          by-wait : Dec (s v ≤ base G late R v) → s v ≤ max (base G late R v) (early-last con LF v)
           by-wait (yes h) = omega arith
           by-wait (no h) =
               let t : ℕ = s v - 1 in
-              let f = count-find (G .N) (busy G lat s v t) (omega (arith, taken t (omega (arith, r-le-base)) (omega arith), G .units-pos (G .kind v))) in
+              let some : 0 < countBusy G lat s v t = omega (arith, taken t (omega (arith, r-le-base)) (omega arith), G .units-pos (G .kind v)) in
+              let f = numbersWhere-find (busy G lat s v t) 0 (G .N) some in
               let u : ℕ = f .0 in
-              let b : Busy G lat s v t u = busy→ G lat s v t u (f .2) in
-              let y : T (earlier con v u) = busy-early t u (f .1) (omega arith) (omega arith) (f .2) in
-              let o : u < v = ltb→lt u v (and-right (con v u) (ltb u v) y) in
-              omega (arith, ih u o, b .runs, max-ge (G .N) (λ i. valueIf (earlier con v i) (LF i)) u (f .1), valueIf-on (earlier con v u) (LF u) y)
+              let b : Busy G lat s v t u = busy→ G lat s v t u (f .3) in
+              let y = busy-early t u (f .2) (omega arith) (omega arith) (f .3) in
+              omega (arith, ih u (y .1), b .runs, largest-at (con v) LF 0 v u (omega arith) (y .1) (y .0))
 
       -- at the time R v all units are taken by what may delay v
-      wait-con : R v < s v → G .units (G .kind v) ≤ countBelow (G .N) (con v)
+      wait-con : R v < s v → G .units (G .kind v) ≤ length (numbersWhere 0 (G .N) (con v))
       wait-con h =
           omega (
             arith,
             taken (R v) (omega arith) h,
-            count-mono (G .N) (busy G lat s v (R v)) (con v) (λ u lu t. busy-con (R v) u lu dR h t),
+            length-fewer (busy G lat s v (R v)) (con v) 0 (G .N) (λ u _ lu t. busy-con (R v) u lu dR h t),
           )
 
       ex-bound : ((u : ℕ) → u < v → s u + lat u ≤ LF u) → s v ≤ LS v
@@ -213,12 +230,12 @@ module _ (G : Net) (lat : ℕ → ℕ) (F : Fits G lat) (H : ℕ) (s : ℕ → �
     starts-if-earlier-do v l ih = by-stage (G .ex v) refl
       where
         by-stage : (b : Bool) → G .ex v ≡ b → s v ≤ LS v
-        by-stage true x = ex-bound con late R LS LF Q v l (rw x tt) (ready-by v l ih) (λ u o. ends-by u (omega arith) (ih u o))
+        by-stage true x = ex-bound con late R LS LF Q v l x (ready-by v l ih) (λ u o. ends-by u (omega arith) (ih u o))
         by-stage false x = off-EX (decLe (s v) (LS v))
           where
             off-EX : Dec (s v ≤ LS v) → s v ≤ LS v
             off-EX (yes h) = h
-            off-EX (no h) = absurd (P .prompt v (R v) l (rw x tt) (omega (arith, Q .ls-base v l)) (ready-by v l ih))
+            off-EX (no h) = absurd (P .prompt v (R v) l x (omega (arith, Q .ls-base v l)) (ready-by v l ih))
 
     starts-below : (k v : ℕ) → v < k → v < G .N → s v ≤ LS v
     starts-below zero v b l = absurd (omega arith)

@@ -5,21 +5,19 @@
 -- are units. A node that is left at H may not: off EX it is not ready by H; at EX it is not, or all units are taken. These are
 -- the claims of a schedule at H.
 use Prim.Native.Nat.{ℕ, zero, suc, _≤_, _<_}
-use mathlib.Core.Path.{_≡_, sym}
-use mathlib.Core.Bool.{not}
+use mathlib.Core.Path.{_≡_, sym, _∙_}
+use mathlib.Core.Bool.{true, false, false≢true}
 use mathlib.Core.Logic.{_⊎_, ⊎-elim}
 use native.Mathlib.Omega.{arith}
 use native.Mathlib.Decide.{decLe, decLt}
-use lib.Dec.{T, T-not}
-use Rattle.schedules.specs.inside.SumsBelow.{countBelow}
-use Rattle.schedules.specs.inside.Nets.{Net, Fits, Done, busy, Sched}
-use Rattle.schedules.proofs.Counting.{count-mono}
+use Rattle.lists.proofs.NumbersWhere.{length-fewer}
+use Rattle.schedules.specs.inside.Nets.{Net, Fits, Done, busy, countBusy, Sched}
 use Rattle.schedules.proofs.NetLaws.{done-mono, busy→, →busy}
 
 -- v may start in cycle H of a play whose starts, with those of this cycle so far, are s′
 pub record May (G : Net) (lat : ℕ → ℕ) (H : ℕ) (s′ : ℕ → ℕ) (v : ℕ) : Type 0 where
   pub ready : Done G lat s′ v H
-  pub unit : T (G .ex v) → countBelow (G .N) (busy G lat s′ v H) < G .units (G .kind v)
+  pub unit : G .ex v ≡ true → countBusy G lat s′ v H < G .units (G .kind v)
 
 -- the cycle H takes the starts s to s′
 pub record Next (G : Net) (lat : ℕ → ℕ) (H : ℕ) (s s′ : ℕ → ℕ) : Type 0 where
@@ -54,14 +52,14 @@ module _ (G : Net) (lat : ℕ → ℕ) (F : Fits G lat) (H : ℕ) (s s′ : ℕ 
       by-start (no g) = omega (arith, X .keep v l (omega arith))
 
   -- what runs at a time before H is the same in both
-  busy-back : (v t : ℕ) → t < H → (u : ℕ) → u < G .N → T (busy G lat s′ v t u) → T (busy G lat s v t u)
+  busy-back : (v t : ℕ) → t < H → (u : ℕ) → u < G .N → busy G lat s′ v t u ≡ true → busy G lat s v t u ≡ true
   busy-back v t h u l k =
       let b = busy→ G lat s′ v t u k in
       let q = same-below u l (omega (arith, b .begun)) in
       →busy G lat s v t u
       (record { ex = b .ex; same = b .same; runs = omega (arith, b .runs); begun = omega (arith, b .begun); tie = λ y. omega (arith, b .tie y) })
 
-  busy-on : (v t : ℕ) → t < H → (u : ℕ) → u < G .N → T (busy G lat s v t u) → T (busy G lat s′ v t u)
+  busy-on : (v t : ℕ) → t < H → (u : ℕ) → u < G .N → busy G lat s v t u ≡ true → busy G lat s′ v t u ≡ true
   busy-on v t h u l k =
       let b = busy→ G lat s v t u k in
       let q = X .keep u l (omega (arith, b .begun)) in
@@ -126,40 +124,40 @@ module _ (G : Net) (lat : ℕ → ℕ) (F : Fits G lat) (H : ℕ) (s s′ : ℕ 
           by-time (yes k) = let q = same-below v l k in rw (← q) (done-on v (s v) l (omega arith) (P .ready v l (omega arith)))
           by-time (no k) = let q : s′ v ≡ H = omega arith in rw q (at-H v l q .ready)
 
-      prompt : (v t : ℕ) → v < G .N → T (not (G .ex v)) → t < s′ v → Done G lat s′ v t → ⊥
+      prompt : (v t : ℕ) → v < G .N → G .ex v ≡ false → t < s′ v → Done G lat s′ v t → ⊥
       prompt v t l x h d = by-time (decLt t H)
         where
           by-time : Dec (t < H) → ⊥
           by-time (yes k) = P .prompt v t l x (before v t l k h) (done-back v t l k d)
           by-time (no k) =
               let g = at-most v l in
-              left v l (omega arith) (record { ready = done-mono G lat s′ v t H (omega arith) d; unit = λ y. absurd (T-not (G .ex v) x y) })
+              left v l (omega arith) (record { ready = done-mono G lat s′ v t H (omega arith) d; unit = λ y. absurd (false≢true (sym x ∙ y)) })
 
-      waits : (v t : ℕ) → v < G .N → T (G .ex v) → t < s′ v → Done G lat s′ v t → G .units (G .kind v) ≤ countBelow (G .N) (busy G lat s′ v t)
+      waits : (v t : ℕ) → v < G .N → G .ex v ≡ true → t < s′ v → Done G lat s′ v t → G .units (G .kind v) ≤ countBusy G lat s′ v t
       waits v t l x h d = by-time (decLt t H)
         where
-          at-end : Dec (countBelow (G .N) (busy G lat s′ v H) < G .units (G .kind v)) → t ≡ H → G .units (G .kind v) ≤ countBelow (G .N) (busy G lat s′ v t)
+          at-end : Dec (countBusy G lat s′ v H < G .units (G .kind v)) → t ≡ H → G .units (G .kind v) ≤ countBusy G lat s′ v t
           at-end (yes k) q = absurd (left v l (omega arith) (record { ready = done-mono G lat s′ v t H (omega arith) d; unit = λ y. k }))
           at-end (no k) q = rw q (omega arith)
 
-          by-time : Dec (t < H) → G .units (G .kind v) ≤ countBelow (G .N) (busy G lat s′ v t)
+          by-time : Dec (t < H) → G .units (G .kind v) ≤ countBusy G lat s′ v t
           by-time (yes k) =
               omega (
                 arith,
                 P .waits v t l x (before v t l k h) (done-back v t l k d),
-                count-mono (G .N) (busy G lat s v t) (busy G lat s′ v t) (busy-on v t k),
+                length-fewer (busy G lat s v t) (busy G lat s′ v t) 0 (G .N) (λ u _ l. busy-on v t k u l),
               )
-          by-time (no k) = let g = at-most v l in at-end (decLt (countBelow (G .N) (busy G lat s′ v H)) (G .units (G .kind v))) (omega arith)
+          by-time (no k) = let g = at-most v l in at-end (decLt (countBusy G lat s′ v H) (G .units (G .kind v))) (omega arith)
 
-      room : (v : ℕ) → v < G .N → T (G .ex v) → s′ v < suc H → countBelow (G .N) (busy G lat s′ v (s′ v)) < G .units (G .kind v)
+      room : (v : ℕ) → v < G .N → G .ex v ≡ true → s′ v < suc H → countBusy G lat s′ v (s′ v) < G .units (G .kind v)
       room v l x h = by-time (decLt (s′ v) H)
         where
-          by-time : Dec (s′ v < H) → countBelow (G .N) (busy G lat s′ v (s′ v)) < G .units (G .kind v)
+          by-time : Dec (s′ v < H) → countBusy G lat s′ v (s′ v) < G .units (G .kind v)
           by-time (yes k) =
               let q = same-below v l k in
               omega (
                 arith,
                 rw q at (P .room v l x (omega arith)),
-                count-mono (G .N) (busy G lat s′ v (s′ v)) (busy G lat s v (s′ v)) (busy-back v (s′ v) k),
+                length-fewer (busy G lat s′ v (s′ v)) (busy G lat s v (s′ v)) 0 (G .N) (λ u _ l. busy-back v (s′ v) k u l),
               )
           by-time (no k) = let q : s′ v ≡ H = omega arith in rw q (at-H v l q .unit x)

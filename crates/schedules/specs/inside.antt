@@ -1,4 +1,3 @@
-pub mod SumsBelow
 pub mod Nets
 pub mod RoundInequalities
 pub mod Executions

@@ -8,16 +8,11 @@
 use Prim.Native.Nat.{ℕ, zero, suc, _+_, _-_, _≤_, _<_, min, max}
 use mathlib.Core.Path.{_≡_, sym, ap, _∙_}
 use mathlib.Core.Bool.{Bool, true, false, not, false≢true}
-use mathlib.Core.List.{List, map}
+use mathlib.Core.List.{List}
 use mathlib.Core.Logic.{inl, inr, ⊎-elim}
 use native.Mathlib.Omega.{arith}
-use Rattle.lists.specs.Lists.{numbersWhere}
-use Rattle.lists.specs.Sums.{largest, sum}
 use Rattle.lists.proofs.Bools.{by-test, and-left, and-right, and-both, same-test}
-use Rattle.lists.proofs.Members.{in-map, map-in}
-use Rattle.lists.proofs.NumbersWhere.{numbersWhere-in}
-use Rattle.lists.proofs.Sums.{largest-in, largest-most}
-use Rattle.lists.proofs.NumbersWhereGrowth.{in-numbersWhere, numbersWhere-none}
+use Rattle.lists.proofs.NumbersWhere.{sum-fewer, largest-fewer}
 use Rattle.record.specs.declared.Block.{Block}
 use Rattle.record.proofs.AcceptedRanges.{Ranges}
 use Rattle.model.specs.Nodes.{EX, nodes, node, instruction, isEX, lowest, highest}
@@ -28,33 +23,12 @@ use Rattle.model.proofs.PairSets.{count-ext, count-zero}
 use Rattle.model.proofs.RoundsEnd.{windows-settled}
 use Rattle.model.proofs.Latencies.{lowest-some}
 use Rattle.model.proofs.RoundRules.{Clear, apart-clear, clear-apart}
-use Rattle.schedules.specs.inside.SumsBelow.{valueIf}
-use Rattle.schedules.proofs.BlockNet.{ready-done, done-ready, sum-more}
+use Rattle.schedules.proofs.BlockNet.{ready-done, done-ready}
 use Rattle.theorems.specs.RoundByRound.{knownAt, lateAt, apartBy, apartAt}
 use Rattle.theorems.proofs.KnownPairs.{found, none-first, found-apart, apart-found, kept-or-found, kept, found-known, last-round}
 use Rattle.theorems.proofs.ModelRounds.{G, EX-node, late, at-EX, off-EX}
 
--- ---- of fewer, the largest and the sum are no larger
-module _ (p q : ℕ → Bool) (n : ℕ) (fewer : (k : ℕ) → k < n → p k ≡ true → q k ≡ true) where
-  largest-fewer : (f g : ℕ → ℕ) (a c : ℕ) → c ≤ n → ((k : ℕ) → k < c → f k ≤ g k)
-      → largest (map f (numbersWhere a c p)) ≤ largest (map g (numbersWhere a c q))
-  largest-fewer f g a c m h =
-      largest-most (largest (map g (numbersWhere a c q))) (map f (numbersWhere a c p))
-      (λ x i.
-      let w = in-map f x (numbersWhere a c p) i in
-      let k = numbersWhere-in p a c (w .0) (w .1) in
-      let j = in-numbersWhere q a c (w .0) (k .0) (k .1) (fewer (w .0) (omega (arith, k .1)) (k .2)) in
-      omega (arith, w .2, h (w .0) (k .1), largest-in (map g (numbersWhere a c q)) (g (w .0)) (map-in g (w .0) (numbersWhere a c q) j)))
-
-  one-fewer : (k x : ℕ) → k < n → valueIf (p k) x ≤ valueIf (q k) x
-  one-fewer k x l = by-test (p k) (λ t. rw (t, fewer k l t) (omega arith)) (λ f. rw f (omega arith))
-
-  sum-fewer : (f : ℕ → ℕ) (c : ℕ) → c ≤ n → sum (map f (numbersWhere 0 c p)) ≤ sum (map f (numbersWhere 0 c q))
-  unfolding sum
-  sum-fewer f zero m = rw (numbersWhere-none p 0) (omega arith)
-  sum-fewer f (suc c) m = omega (arith, sum-more p f c, sum-more q f c, sum-fewer f c (omega arith), one-fewer c (f c) (omega arith))
-
--- and so is what the round rules make of them
+-- where no part of it is larger, what the round rules make of them is not
 latest-mono : (p q s t x y : ℕ) → p ≤ q → s ≤ t → x ≤ y → min (p + s) (max p x) ≤ min (q + t) (max q y)
 latest-mono p q s t x y h k m = omega arith
 
@@ -90,11 +64,12 @@ module _ (b : Block) (A : Ranges b) where
         let q : ℕ → Bool = rival (contending b) known i in
         let hi : ℕ → ℕ = λ j. highest b (node EX j) in
         let few : (j : ℕ) → j < b .n → p j ≡ true → q j ≡ true = λ j. fewer i j (omega arith) in
-        let m = largest-fewer p q (b .n) few hi hi (i + 1) (b .n) (omega arith) (λ k a. omega arith) in
-        let x = largest-fewer p q (b .n) few (λ j. start (late b more) (node EX j) + hi j) (λ j. start (late b known) (node EX j) + hi j) 0 i (omega arith)
-        (λ k a. omega (arith, ih (node EX k) (omega (arith, EX-node v t)))) in
+        let m = largest-fewer p q (i + 1) (b .n) (λ j _ m. few j m) hi hi (λ k _ a. omega arith) in
+        let before : (j : ℕ) → 0 ≤ j → j < i → p j ≡ true → q j ≡ true = λ j _ m. few j (omega arith) in
+        let x = largest-fewer p q 0 i before (λ j. start (late b more) (node EX j) + hi j) (λ j. start (late b known) (node EX j) + hi j)
+        (λ k _ a. omega (arith, ih (node EX k) (omega (arith, EX-node v t)))) in
         rw (at-EX b more A v l t, at-EX b known A v l t)
-        (latest-mono _ _ _ _ _ _ (omega (arith, r, m)) (sum-fewer p q (b .n) few hi i (omega arith)) x))
+        (latest-mono _ _ _ _ _ _ (omega (arith, r, m)) (sum-fewer p q 0 i before hi) x))
         (λ f. omega (arith, r, off-EX b more A v l f, off-EX b known A v l f))
       where
         r : ready b (highest b) (late b more) v ≤ ready b (highest b) (late b known) v

@@ -15,8 +15,8 @@ use Rattle.record.specs.declared.Reading.{Reading}
 use Rattle.record.proofs.Answers.{accepted-so}
 use Rattle.record.proofs.AcceptedRanges.{ranges}
 use Rattle.model.specs.Nodes.{EX, nodes, node, chosen}
-use Rattle.model.specs.Cycles.{start, play, threeTimes}
-use Rattle.model.specs.Rounds.{windows}
+use Rattle.model.specs.Cycles.{cyclesEach, start, play, threeTimes, playPlace}
+use Rattle.model.specs.Rounds.{windows, windowPlace}
 use Rattle.model.proofs.TableNumbers.{window-at}
 use Rattle.analysis.specs.Result.{result}
 use Rattle.analysis.specs.Promises.{Analyses, WritesWindows}
@@ -52,9 +52,10 @@ origin-copied s o o' r a y f x e =
 pub anomaly : AnomalyOfE
 anomaly = worst-E
 
--- WHETHER AN INSTRUCTION CAN WAIT FOR ITS UNIT WITHOUT END: no. In every play it starts by its latest start, before 513 n
+-- WHETHER AN INSTRUCTION CAN WAIT FOR ITS UNIT WITHOUT END: no. In every play it starts by its latest start, before
+-- 513 × n cycles are over
 pub no-endless-wait : (b : Block) → Whole b → AcceptedBlock b → (l : List ℕ) → AcceptedList b l → (i : ℕ) → i < b .n
-    → (start (play b (chosen b l)) (node EX i) ≤ start (windows b .late) (node EX i)) × (start (windows b .late) (node EX i) < 513 * b .n)
+    → (start (play b (chosen b l)) (node EX i) ≤ start (windows b .late) (node EX i)) × (start (windows b .late) (node EX i) < cyclesEach * b .n)
 no-endless-wait b whole accepted l listed i h =
     let v : node EX i < nodes b = omega arith in
     (inside b whole accepted l listed (node EX i) v .startIn .to, late-below b accepted (λ k. whole .each k .hi) (node EX i) v)
@@ -62,12 +63,11 @@ no-endless-wait b whole accepted l listed i h =
 -- the same of the numbers written: EX's start in what a play writes, and its latest start in what `windows` writes
 pub outcomes-wait : (b : Block) (l o o' : List ℕ) (a : Answer) → WritesWindows b o a o' → a ≡ Accepted
     → (q q' : List ℕ) (c : Answer) → Plays b l q c q' → c ≡ Accepted → (i : ℕ) → i < b .n
-    → (getD q' (3 * node EX i + 1) 0 ≤ getD o' (6 * node EX i + 4) 0) × (getD o' (6 * node EX i + 4) 0 < 513 * b .n)
+    → (getD q' (playPlace (node EX i) 1) 0 ≤ getD o' (windowPlace (node EX i) 4) 0) × (getD o' (windowPlace (node EX i) 4) 0 < cyclesEach * b .n)
 unfolding threeTimes
 outcomes-wait b l o o' a x e q q' c y f i h =
     let v : node EX i < nodes b = omega arith in
     let fine = windows-fine b o (accepted-so a e (x .answer)) in
     let in-window = outcomes-inside b l o o' a x e q q' c y f (node EX i) 1 v (omega arith) .to in
-    let same : 6 * node EX i + 3 + 1 ≡ 6 * node EX i + 4 = omega arith in
-    let late = window-kept b o o' a x e (6 * node EX i + 4) (omega arith) ∙ window-at b (node EX i) 4 v (omega arith) in
-    (rw same at in-window, rw late (late-below b (fine .0) (λ k. x .whole .each k .hi) (node EX i) v))
+    let late = window-kept b o o' a x e (windowPlace (node EX i) 4) (omega arith) ∙ window-at b (node EX i) 4 v (omega arith) in
+    (in-window, rw late (late-below b (fine .0) (λ k. x .whole .each k .hi) (node EX i) v))

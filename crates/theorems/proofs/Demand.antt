@@ -14,8 +14,8 @@ use Rattle.record.specs.declared.Block.{Block}
 use Rattle.record.proofs.AcceptedRanges.{ranges}
 use Rattle.model.specs.Nodes.{nodes, entry, chosen}
 use Rattle.model.specs.Paths.{has, count, contending}
-use Rattle.model.specs.Cycles.{firstState, allStarted, playOn, play, playLength, playTable}
-use Rattle.model.specs.Rounds.{windows, pairCount, roundCount, apartCount, bound, windowTable}
+use Rattle.model.specs.Cycles.{cyclesEach, mostCycles, firstState, allStarted, playOn, play, playLength, playPlace, playTable}
+use Rattle.model.specs.Rounds.{windows, pairCount, roundCount, apartCount, bound, windowPlace, windowNumbers, windowTable}
 use Rattle.model.proofs.RoundsEnd.{rounds-most as settled-most}
 use Rattle.model.proofs.Limits.{bound-limit as model-limit}
 use Rattle.model.proofs.Chains.{contend-near as model-near}
@@ -56,19 +56,19 @@ module _ (b : Block) (whole : Whole b) (accepted : AcceptedBlock b) where
 
     -- of the tables: number k of a node's three lies between number k and number 3 + k of its six
     pub tables-inside : (v k : ℕ) → v < nodes b → k < 3
-        → Within (getD (windowTable b) (6 * v + k) 0) (getD (playTable b lat) (3 * v + k) 0) (getD (windowTable b) (6 * v + 3 + k) 0)
+        → Within (getD (windowTable b) (windowPlace v k) 0) (getD (playTable b lat) (playPlace v k) 0) (getD (windowTable b) (windowPlace v (3 + k)) 0)
     tables-inside v k h q = table-within b lat v k h q (inside v h)
 
     -- "nothing waits past its latest start"
     pub in-time : StartsInTime b lat
     in-time = starts-in-time b accepted cap lat (chosen-fits b accepted l listed)
 
-    -- so every play ends: after at most 513 n cycles all have started
-    pub play-ends : allStarted b (playOn (513 * b .n) b lat firstState) ≡ true
+    -- so every play ends: after 513 × n cycles at most, all have started
+    pub play-ends : allStarted b (playOn (cyclesEach * b .n) b lat firstState) ≡ true
     play-ends = last-allStarted b accepted cap lat (chosen-fits b accepted l listed)
 
     -- and those cycles are the whole play
-    pub play-whole : play b lat ≡ playOn (513 * b .n) b lat firstState .starts
+    pub play-whole : play b lat ≡ playOn (cyclesEach * b .n) b lat firstState .starts
     play-whole = last-play b accepted cap lat (chosen-fits b accepted l listed)
 
     -- "the last commit is by the bound"
@@ -76,23 +76,27 @@ module _ (b : Block) (whole : Whole b) (accepted : AcceptedBlock b) where
     by-bound = length-bound b accepted cap lat (chosen-fits b accepted l listed)
 
   -- "the bound is at most 513 cycles per instruction", so 30,780
-  pub bound-limit : (bound b ≤ 513 * b .n) × (513 * b .n ≤ 30780)
+  pub bound-limit : (bound b ≤ cyclesEach * b .n) × (cyclesEach * b .n ≤ mostCycles)
   bound-limit = (model-limit b (ranges b accepted) cap, omega (arith, ranges b accepted .n .1))
 
 -- ---- the same of whatever the operations give
 module _ (b : Block) (l : List ℕ) where
   -- "Every play stays inside the windows": what a play writes lies within what `windows` writes
-  pub outcomes-inside : (o o' : List ℕ) (a : Answer) → WritesWindows b o a o' → a ≡ Accepted → (q q' : List ℕ) (c : Answer) → Plays b l q c q' → c ≡ Accepted
-      → (v k : ℕ) → v < nodes b → k < 3 → Within (getD o' (6 * v + k) 0) (getD q' (3 * v + k) 0) (getD o' (6 * v + 3 + k) 0)
+  pub outcomes-inside : (o o' : List ℕ) (a : Answer) → WritesWindows b o a o' → a ≡ Accepted
+      → (q q' : List ℕ) (c : Answer) → Plays b l q c q' → c ≡ Accepted
+      → (v k : ℕ) → v < nodes b → k < 3
+      → Within (getD o' (windowPlace v k) 0) (getD q' (playPlace v k) 0) (getD o' (windowPlace v (3 + k)) 0)
   outcomes-inside = written-within b l
 
   -- and every number that the result record has for an instruction
-  pub outcomes-times : (o o' : List ℕ) (a : Answer) → Analyses b o a o' → a ≡ Accepted → (q q' : List ℕ) (c : Answer) → Plays b l q c q' → c ≡ Accepted
+  pub outcomes-times : (o o' : List ℕ) (a : Answer) → Analyses b o a o' → a ≡ Accepted
+      → (q q' : List ℕ) (c : Answer) → Plays b l q c q' → c ≡ Accepted
       → (i : ℕ) → i < b .n → TimesKept o' q' i
   outcomes-times = times-kept b l
 
   -- "the last commit is by the bound": the length of a play is at most the bound in bytes 6 and 7 of the result record
-  pub outcomes-bound : (o o' : List ℕ) (a : Answer) → Analyses b o a o' → a ≡ Accepted → (r : PlayLength) → GivesPlayLength b l r → r .answer ≡ Accepted
+  pub outcomes-bound : (o o' : List ℕ) (a : Answer) → Analyses b o a o' → a ≡ Accepted
+      → (r : PlayLength) → GivesPlayLength b l r → r .answer ≡ Accepted
       → r .cycles ≤ little 2 o' 6
   outcomes-bound = given-bound b l
 
@@ -101,26 +105,26 @@ module _ (b : Block) (l : List ℕ) where
   pub steps-play : (k : ℕ) (p : PlayState) → Steps b l k p → (p .t ≡ k) × (p .starts ≡ playOn k b (chosen b l) firstState .starts)
   steps-play = stepping-play b l
 
-  -- after 513 n of them the starts are those of the play
-  pub steps-table : (p : PlayState) → Steps b l (513 * b .n) p → p .starts ≡ play b (chosen b l)
+  -- after 513 × n cycles the starts are those of the play
+  pub steps-table : (p : PlayState) → Steps b l (cyclesEach * b .n) p → p .starts ≡ play b (chosen b l)
   steps-table = stepping-table b l
 
   -- so they are those that a play writes
-  pub steps-written : (o o' : List ℕ) (a : Answer) → Plays b l o a o' → a ≡ Accepted → (p : PlayState) → Steps b l (513 * b .n) p
-      → (v : ℕ) → v < nodes b → getD (p .starts) v 0 ≡ getD o' (3 * v + 1) 0
+  pub steps-written : (o o' : List ℕ) (a : Answer) → Plays b l o a o' → a ≡ Accepted → (p : PlayState) → Steps b l (cyclesEach * b .n) p
+      → (v : ℕ) → v < nodes b → getD (p .starts) v 0 ≡ getD o' (playPlace v 1) 0
   steps-written = stepping-written b l
 
 -- and none of them is refused: before the first, the verdicts on block and list have to be given
-pub steps-accepted : (b : Block) → AcceptedBlock b → (l : List ℕ) → AcceptedList b l → (k : ℕ) → k < 513 * b .n → (p : PlayState) → Steps b l k p
-    → (r : Step) → PlaysCycle b l p r → r .answer ≡ Accepted
+pub steps-accepted : (b : Block) → AcceptedBlock b → (l : List ℕ) → AcceptedList b l → (k : ℕ) → k < cyclesEach * b .n
+    → (p : PlayState) → Steps b l k p → (r : Step) → PlaysCycle b l p r → r .answer ≡ Accepted
 steps-accepted = stepping-accepted
 
 -- ---- "Prove: rounds are at most contending pairs plus 1; no time exceeds 513 × n, so 30,780."
 pub rounds-most : (b : Block) → roundCount b ≤ pairCount b + 1
 rounds-most = settled-most
 
--- no number of the window table; that 513 × n is at most 30,780 is in bound-limit
-pub times-limit : (b : Block) → Whole b → AcceptedBlock b → (k : ℕ) → k < 30 * b .n → getD (windowTable b) k 0 ≤ 513 * b .n
+-- no number of the window table; that this is at most 30,780 is in bound-limit
+pub times-limit : (b : Block) → Whole b → AcceptedBlock b → (k : ℕ) → k < windowNumbers b → getD (windowTable b) k 0 ≤ cyclesEach * b .n
 times-limit b whole accepted = table-few b accepted (λ i. whole .each i .hi)
 
 -- what the rounds come to: a pair that is apart after round k is apart after the next

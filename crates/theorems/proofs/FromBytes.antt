@@ -1,6 +1,6 @@
 -- From byte to theorem: what the doors for C and Rust wrote keeps the theorems too, by their promises and the answer 0 alone.
 -- Assumes nothing.
-use Prim.Native.Nat.{ℕ, _+_, _*_, _≤_, _<_}
+use Prim.Native.Nat.{ℕ, _+_, _≤_, _<_}
 use mathlib.Core.Path.{_≡_, refl}
 use mathlib.Core.List.{List}
 use lib.ListN.{getD}
@@ -8,6 +8,8 @@ use Rattle.lists.specs.Bytes.{little}
 use Rattle.record.specs.Layout.{decoded}
 use Rattle.record.specs.declared.Answer.the-variants.{Accepted}
 use Rattle.model.specs.Nodes.{nodes}
+use Rattle.model.specs.Cycles.{playPlace}
+use Rattle.model.specs.Rounds.{windowPlace}
 use Rattle.exports.specs.Doors.{AnalysesBytes, WindowsBytes, PlaysBytes, PlayLengthBytes}
 use Rattle.exports.proofs.Outcomes.{analyse-opens, windows-opens, play-opens, play-length-opens}
 use Rattle.theorems.specs.Words.{Within, TimesKept}
@@ -24,7 +26,7 @@ module _ (s : List ℕ) where
   module _ (l : List ℕ) where
     -- what a play writes lies within what the windows have
     pub bytes-inside : (o o' q q' : List ℕ) → WindowsBytes s o 0 o' → PlaysBytes s l q 0 q' → (v k : ℕ) → v < nodes (decoded s) → k < 3
-        → Within (getD o' (6 * v + k) 0) (getD q' (3 * v + k) 0) (getD o' (6 * v + 3 + k) 0)
+        → Within (getD o' (windowPlace v k) 0) (getD q' (playPlace v k) 0) (getD o' (windowPlace v (3 + k)) 0)
     bytes-inside o o' q q' u w = written-within (decoded s) l o o' Accepted (windows-opens s o o' u) refl q q' Accepted (play-opens s q q' l w) refl
 
     -- and within the times of the result record

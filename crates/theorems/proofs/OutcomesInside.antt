@@ -1,6 +1,6 @@
 -- What the operations give keeps the theorems too: what a play writes lies within what `windows` writes, and its length is at
 -- most the bound that `analyse` writes. Assumes nothing.
-use Prim.Native.Nat.{ℕ, _+_, _*_, _≤_, _<_}
+use Prim.Native.Nat.{ℕ, _+_, _≤_, _<_}
 use mathlib.Core.Path.{_≡_, refl, _∙_}
 use mathlib.Core.List.{List}
 use native.Mathlib.Omega.{arith}
@@ -13,7 +13,8 @@ use Rattle.record.specs.declared.Block.{Block}
 use Rattle.record.proofs.Answers.{accepted-so}
 use Rattle.record.proofs.AcceptedRanges.{ranges}
 use Rattle.model.specs.Nodes.{nodes, entry, chosen}
-use Rattle.model.specs.Cycles.{playLength}
+use Rattle.model.specs.Cycles.{playLength, playPlace}
+use Rattle.model.specs.Rounds.{windowPlace}
 use Rattle.model.proofs.Limits.{bound-limit}
 use Rattle.analysis.specs.Promises.{Analyses, WritesWindows}
 use Rattle.play.specs.Refusals.{playTests, lengthTests}
@@ -26,19 +27,22 @@ use Rattle.theorems.proofs.TablesWithin.{table-within, window-kept, pla
 use Rattle.theorems.proofs.ResultBytes.{bound-bytes, analysed-result}
 
 module _ (b : Block) (l : List ℕ) where
-  pub written-within : (o o' : List ℕ) (a : Answer) → WritesWindows b o a o' → a ≡ Accepted → (q q' : List ℕ) (c : Answer) → Plays b l q c q' → c ≡ Accepted
-      → (v k : ℕ) → v < nodes b → k < 3 → Within (getD o' (6 * v + k) 0) (getD q' (3 * v + k) 0) (getD o' (6 * v + 3 + k) 0)
+  pub written-within : (o o' : List ℕ) (a : Answer) → WritesWindows b o a o' → a ≡ Accepted
+      → (q q' : List ℕ) (c : Answer) → Plays b l q c q' → c ≡ Accepted
+      → (v k : ℕ) → v < nodes b → k < 3
+      → Within (getD o' (windowPlace v k) 0) (getD q' (playPlace v k) 0) (getD o' (windowPlace v (3 + k)) 0)
   written-within o o' a x e q q' c y f v k h m =
       let z : verdict (playTests b l q) ≡ (0, 0) = accepted-so c f (y .answer) in
       let t = play-fine b l q z in
       rw (
-        window-kept b o o' a x e (6 * v + k) (omega arith),
-        window-kept b o o' a x e (6 * v + 3 + k) (omega arith),
-        play-kept b l q q' c y f (3 * v + k) (omega arith),
+        window-kept b o o' a x e (windowPlace v k) (omega arith),
+        window-kept b o o' a x e (windowPlace v (3 + k)) (omega arith),
+        play-kept b l q q' c y f (playPlace v k) (omega arith),
       )
       (table-within b (chosen b l) v k h m (play-inside b (t .0) (λ i. y .whole .each i .hi) (chosen b l) (chosen-fits b (t .0) l (t .2)) v h))
 
-  pub given-bound : (o o' : List ℕ) (a : Answer) → Analyses b o a o' → a ≡ Accepted → (r : PlayLength) → GivesPlayLength b l r → r .answer ≡ Accepted
+  pub given-bound : (o o' : List ℕ) (a : Answer) → Analyses b o a o' → a ≡ Accepted
+      → (r : PlayLength) → GivesPlayLength b l r → r .answer ≡ Accepted
       → r .cycles ≤ little 2 o' 6
   unfolding playLengthGiven
   given-bound o o' a x e r y f =

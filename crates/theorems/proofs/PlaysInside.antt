@@ -12,8 +12,8 @@ use borrow.Author.Tests.{leb-true, leb-false}
 use Rattle.lists.proofs.Bools.{by-test}
 use Rattle.record.specs.declared.Block.{Block}
 use Rattle.record.proofs.AcceptedRanges.{Ranges, ranges}
-use Rattle.model.specs.Nodes.{CM, nodes, node, entry, instruction, lowest, highest, chosen}
-use Rattle.model.specs.Cycles.{State, notStarted, start, started, finish, firstState, allStarted, playOn, play, playLength, ready}
+use Rattle.model.specs.Nodes.{CM, nodes, node, entry, instruction, fetch, lowest, highest, chosen}
+use Rattle.model.specs.Cycles.{State, cyclesEach, mostCycles, notStarted, start, started, finish, firstState, allStarted, playOn, play, playLength, ready}
 use Rattle.model.specs.Rounds.{earliest, R, windows, bound}
 use Rattle.model.proofs.TimesInOrder.{earliest-is}
 use Rattle.model.proofs.Limits.{windows-limit}
@@ -29,8 +29,9 @@ use Rattle.theorems.specs.Words.{AcceptedBlock, AcceptedList, Inside, St
 use Rattle.theorems.proofs.ModelRounds.{G, earliest-early}
 use Rattle.theorems.proofs.WindowsBound.{Late, windows-bound}
 
--- no latest start reaches 513 n
-pub late-below : (b : Block) (accepted : AcceptedBlock b) → ((i : ℕ) → entry b i .hi ≤ 255) → (v : ℕ) → v < nodes b → start (windows b .late) v < 513 * b .n
+-- no latest start reaches 513 × n cycles
+pub late-below : (b : Block) (accepted : AcceptedBlock b) → ((i : ℕ) → entry b i .hi ≤ 255) → (v : ℕ) → v < nodes b
+    → start (windows b .late) v < cyclesEach * b .n
 unfolding finish
 late-below b accepted cap v l =
     let A = ranges b accepted in
@@ -42,10 +43,10 @@ module _ (b : Block) (accepted : AcceptedBlock b) (cap : (i : ℕ) → entry b i
   A = ranges b accepted
 
   -- the starts at the end
-  sched : Sched (G b A) lat 30780 (start (play b lat))
+  sched : Sched (G b A) lat mostCycles (start (play b lat))
   sched = play-sched b accepted cap (lowest b) (lowest-some b A) lat fits
 
-  begins-below : (v : ℕ) → v < nodes b → start (play b lat) v < 30780
+  begins-below : (v : ℕ) → v < nodes b → start (play b lat) v < mostCycles
   begins-below = play-started b accepted cap (lowest b) (lowest-some b A) lat fits
 
   -- a node is ready when it starts
@@ -55,12 +56,12 @@ module _ (b : Block) (accepted : AcceptedBlock b) (cap : (i : ℕ) → entry b i
 
   early-first : (v : ℕ) → v < nodes b → start (earliest b) v ≤ ready b lat (play b lat) v
   early-first v l =
-      early-ready (G b A) lat fits 30780 (start (play b lat)) sched (start (earliest b)) (earliest-early b A) v (ready b lat (play b lat) v) l
+      early-ready (G b A) lat fits mostCycles (start (play b lat)) sched (start (earliest b)) (earliest-early b A) v (ready b lat (play b lat) v) l
       (omega (arith, ready-start v l, begins-below v l))
       (ready-done b A (lowest b) (lowest-some b A) lat (play b lat) v (ready b lat (play b lat) v) (omega arith))
 
-  by-windows : (v : ℕ) → v < nodes b → Late b A lat fits 30780 (start (play b lat)) sched (windows b .late) v
-  by-windows = windows-bound b A lat fits 30780 (start (play b lat)) sched
+  by-windows : (v : ℕ) → v < nodes b → Late b A lat fits mostCycles (start (play b lat)) sched (windows b .late) v
+  by-windows = windows-bound b A lat fits mostCycles (start (play b lat)) sched
 
   late-ready : (v : ℕ) → v < nodes b → ready b lat (play b lat) v ≤ R b (windows b .late) v
   late-ready v l = done-ready b A (lowest b) (lowest-some b A) lat (play b lat) v (R b (windows b .late) v) (by-windows v l .ready)
@@ -80,7 +81,7 @@ module _ (b : Block) (accepted : AcceptedBlock b) (cap : (i : ℕ) → entry b i
   length-bound = play-inside (node CM (b .n - 1)) (omega (arith, A .n .0)) .finishIn .to
 
   -- ---- the state after k cycles, or the one in which all have started if that is sooner
-  module _ (k : ℕ) (few : k ≤ 30780) where
+  module _ (k : ℕ) (few : k ≤ mostCycles) where
     abbrev state : State
     state = playOn k b lat firstState
 
@@ -102,40 +103,40 @@ module _ (b : Block) (accepted : AcceptedBlock b) (cap : (i : ℕ) → entry b i
         by-stop (inl e) = omega (arith, seen-by v l)
         by-stop (inr all) = omega (arith, seen-by v l, all v l)
 
-  -- ---- after 513 n cycles
-  last-few : 513 * b .n ≤ 30780
+  -- ---- after 513 × n cycles
+  last-few : cyclesEach * b .n ≤ mostCycles
   last-few = omega (arith, A .n .1)
 
   abbrev last : State
-  last = playOn (513 * b .n) b lat firstState
+  last = playOn (cyclesEach * b .n) b lat firstState
 
   all-started : (v : ℕ) → v < nodes b → started (last .starts) v ≡ true
-  all-started v l = few-in-time (513 * b .n) last-few v l (late-below b accepted cap v l)
+  all-started v l = few-in-time (cyclesEach * b .n) last-few v l (late-below b accepted cap v l)
 
   pub last-allStarted : allStarted b last ≡ true
   last-allStarted = each-allStarted b last all-started
 
   -- and the play goes no further
-  past-last : (k : ℕ) → 513 * b .n ≤ k → playOn k b lat firstState ≡ last
+  past-last : (k : ℕ) → cyclesEach * b .n ≤ k → playOn k b lat firstState ≡ last
   past-last k h =
-      let e : k ≡ 513 * b .n + (k - 513 * b .n) = omega arith in
-      ap (λ (j : ℕ). playOn j b lat firstState) e ∙ allStarted-more b lat (513 * b .n) (k - 513 * b .n) firstState last-allStarted
+      let e : k ≡ cyclesEach * b .n + (k - cyclesEach * b .n) = omega arith in
+      ap (λ (j : ℕ). playOn j b lat firstState) e ∙ allStarted-more b lat (cyclesEach * b .n) (k - cyclesEach * b .n) firstState last-allStarted
 
   pub last-play : play b lat ≡ last .starts
   unfolding play
-  last-play = ap (λ (p : State). p .starts) (past-last 30780 last-few)
+  last-play = ap (λ (p : State). p .starts) (past-last mostCycles last-few)
 
   -- so nothing waits past its latest start, however many cycles are played
   pub starts-in-time : StartsInTime b lat
   starts-in-time k v l h =
-      by-test (leb k 30780) (λ t. few-in-time k (leb-true k 30780 t) v l (omega arith))
-      (λ t. ap (λ (p : State). started (p .starts) v) (past-last k (omega (arith, leb-false k 30780 t, last-few))) ∙ all-started v l)
+      by-test (leb k mostCycles) (λ t. few-in-time k (leb-true k mostCycles t) v l (omega arith))
+      (λ t. ap (λ (p : State). started (p .starts) v) (past-last k (omega (arith, leb-false k mostCycles t, last-few))) ∙ all-started v l)
 
 -- ---- the latencies that an accepted list chooses
 pub chosen-fits : (b : Block) (accepted : AcceptedBlock b) (l : List ℕ) → AcceptedList b l → Fits (G b (ranges b accepted)) (chosen b l)
 unfolding lowest highest chosen
 chosen-fits b accepted l listed =
     record {
-      low = λ v h. latency-mono _ _ v (ranged b l listed (instruction v) (omega arith) .0);
-      high = λ v h. latency-mono _ _ v (ranged b l listed (instruction v) (omega arith) .1);
+      low = λ v h. latency-mono fetch _ _ v (ranged b l listed (instruction v) (omega arith) .0);
+      high = λ v h. latency-mono fetch _ _ v (ranged b l listed (instruction v) (omega arith) .1);
     }

@@ -21,7 +21,7 @@ use Rattle.record.specs.declared.Block.{Block}
 use Rattle.record.proofs.Answers.{accepted-so}
 use Rattle.record.proofs.AcceptedRanges.{ranges}
 use Rattle.model.specs.Nodes.{EX, CM, nodes, node, entry, highest, chosen}
-use Rattle.model.specs.Cycles.{start, finish, threeTimes}
+use Rattle.model.specs.Cycles.{cyclesEach, start, finish, threeTimes, playPlace, playNumbers}
 use Rattle.model.specs.Rounds.{earliest, windows}
 use Rattle.model.proofs.TableNumbers.{three, play-at}
 use Rattle.model.proofs.Limits.{earliest-limit, windows-limit}
@@ -77,8 +77,8 @@ module _ (b : Block) where
       (getD-joined 2 (λ k. bytes 2 (getD (fourTimes b i) k 0)) (λ k. length-bytes 2 (getD (fourTimes b i) k 0)) 0 4 k j q m)
 
   module _ (accepted : AcceptedBlock b) (cap : (i : ℕ) → entry b i .hi ≤ 255) where
-    -- none exceeds 513 n, so each has 16 bits
-    four-limit : (i k : ℕ) → i < b .n → k < 4 → getD (fourTimes b i) k 0 ≤ 513 * b .n
+    -- none exceeds 513 × n cycles, so each has 16 bits
+    four-limit : (i k : ℕ) → i < b .n → k < 4 → getD (fourTimes b i) k 0 ≤ cyclesEach * b .n
     unfolding finish
     four-limit i zero h q = omega (arith, earliest-limit b (ranges b accepted) cap (node EX i) (omega arith))
     four-limit i (suc zero) h q = omega (arith, windows-limit b (ranges b accepted) cap (node EX i) (omega arith))
@@ -104,7 +104,9 @@ times-kept b l o o' a x e q q' c y f i h =
     let ex : node EX i < nodes b = omega arith in
     let cm : node CM i < nodes b = omega arith in
     record {
-      starts = rw (rw add-zero at (carried 0 (omega arith)), carried 1 (omega arith), written (node EX i) 1 ex (omega arith)) (inside (node EX i) ex .startIn);
+      starts =
+          rw (rw add-zero at (carried 0 (omega arith)), carried 1 (omega arith), written (node EX i) 1 ex (omega arith))
+          (inside (node EX i) ex .startIn);
       finishes = rw (carried 2 (omega arith), written (node EX i) 2 ex (omega arith)) (inside (node EX i) ex .finishIn .to);
       commits = rw (carried 3 (omega arith), written (node CM i) 2 cm (omega arith)) (inside (node CM i) cm .finishIn .to);
     }
@@ -112,14 +114,14 @@ times-kept b l o o' a x e q q' c y f i h =
     cap : (i : ℕ) → entry b i .hi ≤ 255
     cap i = x .whole .each i .hi
 
-    fine : AcceptedBlock b × (15 * b .n ≤ length q) × AcceptedList b l
+    fine : AcceptedBlock b × (playNumbers b ≤ length q) × AcceptedList b l
     fine = play-fine b l q (accepted-so c f (y .answer))
 
     carried : (k : ℕ) → k < 4 → little 2 o' (28 + 8 * i + 2 * k) ≡ getD (fourTimes b i) k 0
     carried k m = rw (analysed-result b o o' a x e) (times-bytes b (fine .0) cap i k h m)
 
-    written : (v k : ℕ) → v < nodes b → k < 3 → getD q' (3 * v + k) 0 ≡ getD (three b (chosen b l) v) k 0
-    written v k m n = play-kept b l q q' c y f (3 * v + k) (omega arith) ∙ play-at b (chosen b l) v k m n
+    written : (v k : ℕ) → v < nodes b → k < 3 → getD q' (playPlace v k) 0 ≡ getD (three b (chosen b l) v) k 0
+    written v k m n = play-kept b l q q' c y f (playPlace v k) (omega arith) ∙ play-at b (chosen b l) v k m n
 
     inside : (v : ℕ) → v < nodes b → Inside b (chosen b l) v
     inside = play-inside b (fine .0) cap (chosen b l) (chosen-fits b (fine .0) l (fine .2))

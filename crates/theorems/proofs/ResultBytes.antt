@@ -13,24 +13,24 @@ use Rattle.record.specs.declared.Answer.{Answer}
 use Rattle.record.specs.declared.Answer.the-variants.{Accepted}
 use Rattle.record.specs.declared.Block.{Block}
 use Rattle.model.specs.Rounds.{bound}
-use Rattle.analysis.specs.Result.{headOf, resultHead, resultBody, result, analysed}
+use Rattle.analysis.specs.Result.{headOf, resultHead, resultBody, result, summaryOf, analysed}
 use Rattle.analysis.specs.Promises.{Analyses}
 use Rattle.record.proofs.Answers.{accepted-so}
 
 -- ---- bytes of the result record
 module _ (b : Block) where
   pub origin-byte : getD (result b) 5 0 ≡ b .origin
-  unfolding result resultBody resultHead headOf
+  unfolding result resultBody resultHead headOf summaryOf
   origin-byte = refl
 
   bound-byte : (k : ℕ) → k < 2 → getD (result b) (6 + k) 0 ≡ getD (bytes 2 (bound b)) k 0
-  unfolding result resultBody resultHead headOf bytes
+  unfolding result resultBody resultHead headOf summaryOf bytes
   bound-byte zero h = refl
   bound-byte (suc zero) h = refl
   bound-byte (suc (suc k)) h = absurd (omega arith)
 
   number-byte : (k : ℕ) → k < 4 → getD (result b) (8 + k) 0 ≡ getD (bytes 4 (b .number)) k 0
-  unfolding result resultBody resultHead headOf bytes
+  unfolding result resultBody resultHead headOf summaryOf bytes
   number-byte zero h = refl
   number-byte (suc zero) h = refl
   number-byte (suc (suc zero)) h = refl

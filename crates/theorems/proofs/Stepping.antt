@@ -1,5 +1,5 @@
 -- Stepping is playing: k accepted cycles from the first state leave the starts that a play of k cycles has, and none of the
--- cycles of a play is refused; so the starts after 513 n of them are those of the play table. Assumes nothing.
+-- cycles of a play is refused; so the starts after 513 × n cycles are those of the play table. Assumes nothing.
 --
 -- Why: a play stops where all have started, and whoever steps goes on. But a node that has started does not begin again, so a
 -- cycle after that changes no start, only the cycle number.
@@ -23,13 +23,13 @@ use Rattle.record.proofs.AcceptedRanges.{ranges}
 use Rattle.record.proofs.Answers.{meaning-one, accepted-so}
 use Rattle.record.proofs.Verdicts.{none, pass, after-accepted}
 use Rattle.model.specs.Nodes.{nodes, chosen}
-use Rattle.model.specs.Cycles.{State, notStarted, start, unfit, cycle, firstState, allStarted, playOn, play, threeTimes}
+use Rattle.model.specs.Cycles.{State, cyclesEach, mostCycles, lastCycle, notStarted, start, unfit, cycle, firstState, allStarted, playOn, play, threeTimes, playPlace}
 use Rattle.model.proofs.TableNumbers.{play-at}
 use Rattle.schedules.proofs.CycleTurns.{Known, begun as begun-turn, turns-length, turns-later, turns-below, turns-none, started-stays}
 use Rattle.schedules.proofs.PlaySchedule.{allStarted-each, each-allStarted, allStarted-stays}
 use Rattle.play.specs.Refusals.{listTest, latencyTest, stateTest, listTests, cycleTests}
 use Rattle.play.specs.Promises.{stateOf, stepped, PlaysCycle, Plays}
-use Rattle.play.specs.inside.NodeTurn.{unfitAt}
+use Rattle.play.specs.inside.StartTest.{unfitAt}
 use Rattle.play.specs.declared.PlayState.{PlayState}
 use Rattle.play.specs.declared.Step.{Step}
 use Rattle.play.proofs.Outcomes.{cycle-fine}
@@ -115,8 +115,8 @@ module _ (b : Block) (few : b .n ≤ 60) where
     cycles-reached zero p P = P
     cycles-reached (suc k) p P = cycles-reached k (cycle b lat p) (cycle-reached p P)
 
-  -- it is fit until cycle 30,780
-  reached-fit : (p : State) → p .t ≤ 30779 → Reached b p → unfit b p ≡ false
+  -- it is fit up to the last cycle
+  reached-fit : (p : State) → p .t ≤ lastCycle → Reached b p → unfit b p ≡ false
   unfolding unfitAt
   reached-fit p early P =
       unfit-none b p (P .long) (nodes b) refl early few
@@ -138,7 +138,7 @@ cycle-verdict : (b : Block) (l : List ℕ) (p : State) → AcceptedBlock b → A
     → verdict (cycleTests b l p) ≡ (0, 0)
 unfolding cycleTests blockTests headerTest entryTest listTests listTest latencyTest stateTest
 cycle-verdict b l p accepted listed fit =
-    after-accepted (blockTests b) _ refl accepted ∙ after-accepted (listTests b l) _ refl listed ∙ pass (stateTest b p) [] fit ∙ none
+    after-accepted (blockTests b) _ accepted ∙ after-accepted (listTests b l) _ listed ∙ pass (stateTest b p) [] fit ∙ none
 
 -- ---- stepping
 module _ (b : Block) (l : List ℕ) where
@@ -169,17 +169,17 @@ module _ (b : Block) (accepted : AcceptedBlock b) (l : List ℕ) (listed : Accep
   steps-reached : {k : ℕ} {p : PlayState} → Steps b l k p → Reached b (stateOf p)
   steps-reached {k} s = rw (steps-cycles b l s) (cycles-reached b few (chosen b l) k firstState (first-reached b few))
 
-  -- while the cycle number is at most 30,779
-  pub steps-on : (k : ℕ) → k < 30780 → (p : PlayState) → Steps b l k p → (r : Step) → PlaysCycle b l p r → r .answer ≡ Accepted
+  -- up to the last cycle
+  pub steps-on : (k : ℕ) → k < mostCycles → (p : PlayState) → Steps b l k p → (r : Step) → PlaysCycle b l p r → r .answer ≡ Accepted
   steps-on k h p s r x =
       let fit : unfit b (stateOf p) ≡ false = reached-fit b few (stateOf p) (omega (arith, steps-number b l s)) (steps-reached s) in
       meaning-one (r .answer) Accepted (x .answer ∙ cycle-verdict b l (stateOf p) accepted listed fit)
 
-  -- a play has at most 513 n of them
-  pub steps-accepted : (k : ℕ) → k < 513 * b .n → (p : PlayState) → Steps b l k p → (r : Step) → PlaysCycle b l p r → r .answer ≡ Accepted
+  -- a play has no more of them than 513 × n cycles
+  pub steps-accepted : (k : ℕ) → k < cyclesEach * b .n → (p : PlayState) → Steps b l k p → (r : Step) → PlaysCycle b l p r → r .answer ≡ Accepted
   steps-accepted k h = steps-on k (omega (arith, few))
 
--- ---- after 513 n cycles the starts are those of the play
+-- ---- after 513 × n cycles the starts are those of the play
 
 -- what an accepted cycle says of the block and of the list
 record Fit (b : Block) (l : List ℕ) : Type 0 where
@@ -197,22 +197,22 @@ steps-fit b l h (on {k} {p} {q} {r} s x e f) =
 none-started : (b : Block) (lat : ℕ → ℕ) → b .n ≤ 0 → (k : ℕ) → playOn k b lat firstState ≡ firstState
 none-started b lat h k = allStarted-stays b lat k firstState (each-allStarted b firstState (λ v l. absurd (omega arith)))
 
-pub steps-table : (b : Block) (l : List ℕ) (p : PlayState) → Steps b l (513 * b .n) p → p .starts ≡ play b (chosen b l)
+pub steps-table : (b : Block) (l : List ℕ) (p : PlayState) → Steps b l (cyclesEach * b .n) p → p .starts ≡ play b (chosen b l)
 unfolding play
 steps-table b l p s =
-    steps-play b l (513 * b .n) p s .1
+    steps-play b l (cyclesEach * b .n) p s .1
     ∙ by-test (ltb 0 (b .n))
     (λ t.
     let x = steps-fit b l (omega (arith, ltb-true 0 (b .n) t)) s in
     sym (last-play b (x .accepted) (λ i. x .whole .each i .hi) (chosen b l) (chosen-fits b (x .accepted) l (x .listed))))
     (λ t.
     let few = ltb-false 0 (b .n) t in
-    ap (λ (q : State). q .starts) (none-started b (chosen b l) few (513 * b .n) ∙ sym (none-started b (chosen b l) few 30780)))
+    ap (λ (q : State). q .starts) (none-started b (chosen b l) few (cyclesEach * b .n) ∙ sym (none-started b (chosen b l) few mostCycles)))
 
 -- and those that a play writes
-pub steps-written : (b : Block) (l o o' : List ℕ) (a : Answer) → Plays b l o a o' → a ≡ Accepted → (p : PlayState) → Steps b l (513 * b .n) p
-    → (v : ℕ) → v < nodes b → getD (p .starts) v 0 ≡ getD o' (3 * v + 1) 0
+pub steps-written : (b : Block) (l o o' : List ℕ) (a : Answer) → Plays b l o a o' → a ≡ Accepted → (p : PlayState) → Steps b l (cyclesEach * b .n) p
+    → (v : ℕ) → v < nodes b → getD (p .starts) v 0 ≡ getD o' (playPlace v 1) 0
 unfolding threeTimes
 steps-written b l o o' a x e p s v h =
     ap (λ (q : List ℕ). getD q v 0) (steps-table b l p s)
-    ∙ sym (play-kept b l o o' a x e (3 * v + 1) (omega arith) ∙ play-at b (chosen b l) v 1 h (omega arith))
+    ∙ sym (play-kept b l o o' a x e (playPlace v 1) (omega arith) ∙ play-at b (chosen b l) v 1 h (omega arith))

@@ -23,7 +23,7 @@ use Rattle.schedules.specs.inside.RoundInequalities.{Separates, Bounded}
 use Rattle.schedules.proofs.RoundsBound.{bounded}
 use Rattle.theorems.specs.RoundByRound.{knownAt, lateAt, apartBy}
 use Rattle.theorems.proofs.KnownPairs.{found, none-first, found-apart, kept-or-found, last-round}
-use Rattle.theorems.proofs.ModelRounds.{G, earliest-early, EX-node, delays, delaysLater, Parted, model-round}
+use Rattle.theorems.proofs.ModelRounds.{G, earliest-early, EX-node, delays, Parted, model-round}
 
 module _ (b : Block) (A : Ranges b) (lat : ℕ → ℕ) (F : Fits (G b A) lat) (H : ℕ) (s : ℕ → ℕ) (P : Sched (G b A) lat H s) where
   -- the latest starts t, with the ready times and finishes that they give, bound it
@@ -42,7 +42,7 @@ module _ (b : Block) (A : Ranges b) (lat : ℕ → ℕ) (F : Fits (G b A) lat) (
     unfolding lateAt
     bounds =
         bounded (G b A) lat F H s P (start (earliest b)) (earliest-early b A) (Parted (knownAt b k)) S
-        (delays b (knownAt b k)) (delaysLater b (knownAt b k)) (λ v. R b late v) (start late) (λ v. start late v + highest b v)
+        (delays b (knownAt b k)) (delays b (knownAt b k)) (λ v. R b late v) (start late) (λ v. start late v + highest b v)
         (model-round b (knownAt b k) A)
 
     by-finish : (v : ℕ) → v < nodes b → s v + lat v ≤ finish (highest b) late v
@@ -50,7 +50,8 @@ module _ (b : Block) (A : Ranges b) (lat : ℕ → ℕ) (F : Fits (G b A) lat) (
     by-finish v l = bounds v l .finish
 
     -- a pair that is found after the round
-    found-sound : (u v : ℕ) → u < nodes b → v < nodes b → isEX u ≡ true → isEX v ≡ true → Clear b (earliest b) late (instruction v) (instruction u)
+    found-sound : (u v : ℕ) → u < nodes b → v < nodes b → isEX u ≡ true → isEX v ≡ true
+        → Clear b (earliest b) late (instruction v) (instruction u)
         → (s u + lat u ≤ start (earliest b) v) ⊎ (s v + lat v ≤ start (earliest b) u)
     found-sound u v lu lv xu xv (inl c) =
         inr (omega (arith, by-finish v lv, c, ap (finish (highest b) late) (EX-node v xv), ap (start (earliest b)) (EX-node u xu)))

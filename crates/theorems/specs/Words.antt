@@ -13,7 +13,7 @@ use Rattle.record.specs.Promises.{Whole}
 use Rattle.record.specs.declared.Answer.the-variants.{Accepted}
 use Rattle.record.specs.declared.Block.{Block}
 use Rattle.model.specs.Nodes.{EX, CM, nodes, node, entry, lowest, highest, chosen}
-use Rattle.model.specs.Cycles.{start, started, finish, ready, firstState, playOn, play, playLength}
+use Rattle.model.specs.Cycles.{start, started, finish, ready, firstState, playOn, play, playLength, playPlace}
 use Rattle.model.specs.Rounds.{earliest, R, windows, bound}
 use Rattle.model.specs.Blocks.{blockE}
 use Rattle.play.specs.Refusals.{listTests}
@@ -74,6 +74,6 @@ pub data Steps (b : Block) (l : List ℕ) : ℕ → PlayState → Type 0 where
 -- finish": of instruction i, o having the result record and q the play table, EX starts between the first two and finishes by
 -- the third, and CM finishes by the fourth
 pub record TimesKept (o q : List ℕ) (i : ℕ) : Type 0 where
-  pub starts : Within (little 2 o (28 + 8 * i)) (getD q (3 * node EX i + 1) 0) (little 2 o (28 + 8 * i + 2))
-  pub finishes : getD q (3 * node EX i + 2) 0 ≤ little 2 o (28 + 8 * i + 4)
-  pub commits : getD q (3 * node CM i + 2) 0 ≤ little 2 o (28 + 8 * i + 6)
+  pub starts : Within (little 2 o (28 + 8 * i)) (getD q (playPlace (node EX i) 1) 0) (little 2 o (28 + 8 * i + 2))
+  pub finishes : getD q (playPlace (node EX i) 2) 0 ≤ little 2 o (28 + 8 * i + 4)
+  pub commits : getD q (playPlace (node CM i) 2) 0 ≤ little 2 o (28 + 8 * i + 6)

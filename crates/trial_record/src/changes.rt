@@ -22,7 +22,7 @@ pub fn none() -> Tally {
 
 // The tally with one record more.
 pub fn judged(t: Tally, s: &[u8; 512]) -> Tally {
-    let r = record::read(s);
+    let r = reader::read(s);
     let a = r.answer;
     let n = number_of(a);
     let o = opinion_of(s);

@@ -42,8 +42,8 @@ fn same_block(a: Block, b: Block) -> bool {
 // Whether a block comes back from the record that the writer makes of it.
 fn block_back(b: Block) -> bool {
     let mut out = [0u8; 512];
-    let a = record::write(b, &mut out);
-    let r = record::read(&out);
+    let a = writer::write(b, &mut out);
+    let r = reader::read(&out);
     let read = r.answer;
     let back = r.block;
     (number_of(a) == 0) & (number_of(read) == 0) & same_block(back, b)
@@ -52,10 +52,10 @@ fn block_back(b: Block) -> bool {
 // Whether the bytes made by another encoder come back through reader and writer.
 fn bytes_back(b: Block) -> bool {
     let s = record_of(b);
-    let r = record::read(&s);
+    let r = reader::read(&s);
     let back = r.block;
     let mut out = [0u8; 512];
-    let a = record::write(back, &mut out);
+    let a = writer::write(back, &mut out);
     (number_of(a) == 0) & check::same(&out, &s)
 }
 
@@ -65,7 +65,7 @@ fn write_judged(b: Block) -> bool {
     let o = opinion_of(&s);
     let mut out = [170u8; 512];
     let old = out;
-    let a = record::write(b, &mut out);
+    let a = writer::write(b, &mut out);
     let same = (number_of(a) == o.number) & (place_of(a) == o.place);
     if o.number == 0 {
         same & check::same(&out, &s)

@@ -35,7 +35,7 @@ fn block(n: u8, e: Entry) -> Block {
 }
 
 fn read_line(s: &[u8]) {
-    let r = record::read(s);
+    let r = reader::read(s);
     let a = r.answer;
     text(b"  read");
     answer(a);
@@ -45,7 +45,7 @@ fn read_line(s: &[u8]) {
 fn both(name: &[u8], b: Block) {
     text(name);
     let mut out = [0u8; 512];
-    let a = record::write(b, &mut out);
+    let a = writer::write(b, &mut out);
     text(b"  write");
     answer(a);
     let s = record_of(b);
@@ -98,7 +98,7 @@ fn front(s: &[u8], n: usize) {
 // A block written to the first n bytes.
 fn output(s: &mut [u8], n: usize) {
     if n <= s.len() {
-        let a = record::write(block(2, entry(1, 4, 63)), &mut s[0..n]);
+        let a = writer::write(block(2, entry(1, 4, 63)), &mut s[0..n]);
         named(b"output of ", n);
         text(b" bytes  write");
         answer(a);

@@ -1,4 +1,4 @@
--- The model's ready time of each stage, edge by edge, where every latency but that of an EX is 1. Assumes nothing.
+-- The model's ready time of each stage, edge by edge, where every latency but those of an IF and an EX is 1. Assumes nothing.
 use Prim.Native.Nat.{ℕ, zero, suc, _+_, _-_, _<_, max}
 use mathlib.Core.Path.{_≡_, refl, sym, ap, _∙_}
 use mathlib.Core.Bool.{_&&_}
@@ -12,7 +12,7 @@ use Rattle.lists.specs.Sums.{largest}
 use Rattle.lists.proofs.Bools.{by-test}
 use Rattle.lists.proofs.Sums.{largest-append}
 use Rattle.record.specs.declared.Block.{Block}
-use Rattle.model.specs.Nodes.{IF, ID, EX, WB, CM, node, instruction, entry, latency, Edges, finishEdges, lastWriter, source, sources, orderEdges, into, finishInto, orderInto}
+use Rattle.model.specs.Nodes.{IF, ID, EX, WB, CM, node, instruction, entry, fetch, Edges, finishEdges, lastWriter, source, sources, orderEdges, into, finishInto, orderInto}
 use Rattle.model.specs.Cycles.{start, finish, ready}
 use Rattle.model.proofs.Latencies.{stage-node, instruction-node}
 use Rattle.unpacked.specs.inside.ReadyByStage.{finishBack, startBack, finishSource, readyIF, readyID, readyEX, readyWB, readyCM}
@@ -44,14 +44,15 @@ largest-into f (e ∷ es) g i h =
     (λ t. rw t (largest-into f es g i h ∙ sym (zero-max _))))
 
 -- ---- ready times
-module _ (b : Block) (lat : ℕ → ℕ) (one : (g i : ℕ) → g < 5 → (g ≡ EX → ⊥) → lat (node g i) ≡ 1) where
+module _ (b : Block) (lat : ℕ → ℕ) (fetches : (i : ℕ) → lat (node IF i) ≡ fetch)
+    (one : (g i : ℕ) → g < 5 → (g ≡ EX → ⊥) → (g ≡ IF → ⊥) → lat (node g i) ≡ 1) where
   -- the finish of the last writer of a register
   writer-finish : (s : List ℕ) (r j : ℕ) → largest (map (finish lat s) (map (node WB) (lastWriter b r j))) ≡ finishSource s (code (lastWriter b r j))
   unfolding lastWriter finishSource code largest finish
   writer-finish s r zero = refl
   writer-finish s r (suc j) =
       by-test (eqb (entry b j .writes) r)
-      (λ t. rw t (rw (max-zero, one WB j (omega arith) (λ e. omega arith), lt-ltb 0 (j + 1) (omega arith), add-sub j) refl))
+      (λ t. rw t (rw (max-zero, one WB j (omega arith) (λ e. omega arith) (λ e. omega arith), lt-ltb 0 (j + 1) (omega arith), add-sub j) refl))
       (λ t. rw t (writer-finish s r j))
 
   source-finish : (s : List ℕ) (r j : ℕ) → largest (map (finish lat s) (map (node WB) (source b r j))) ≡ finishSource s (code (source b r j))
@@ -78,19 +79,27 @@ module _ (b : Block) (lat : ℕ → ℕ) (one : (g i : ℕ) → g < 5 → (g ≡
   unfolding readyIF finishBack startBack finishEdges orderEdges finish
   ready-IF s i =
       ready-stage s IF i (omega arith)
-      ∙ simp (zero-max, max-zero, one ID (i - b .q) (omega arith) (λ e. omega arith), one IF (i - b .f) (omega arith) (λ e. omega arith))
+      ∙ simp (zero-max, max-zero, one ID (i - b .q) (omega arith) (λ e. omega arith) (λ e. omega arith), fetches (i - b .f))
 
   pub ready-ID : (s : List ℕ) (i : ℕ) → ready b lat s (node ID i) ≡ readyID (b .w) (b .d) s i
   unfolding readyID finishBack startBack finishEdges orderEdges finish
   ready-ID s i =
       ready-stage s ID i (omega arith)
-      ∙ simp (leb·zero, sub-zero, zero-max, max-zero, one IF i (omega arith) (λ e. omega arith), one CM (i - b .w) (omega arith) (λ e. omega arith), one ID (i - b .d) (omega arith) (λ e. omega arith))
+      ∙ simp (
+        leb·zero,
+        sub-zero,
+        zero-max,
+        max-zero,
+        fetches i,
+        one CM (i - b .w) (omega arith) (λ e. omega arith) (λ e. omega arith),
+        one ID (i - b .d) (omega arith) (λ e. omega arith) (λ e. omega arith),
+      )
 
   pub ready-EX : (s : List ℕ) (i : ℕ) → ready b lat s (node EX i) ≡ readyEX (code (source b (entry b i .reads1) i)) (code (source b (entry b i .reads2) i)) s i
   unfolding readyEX finishEdges orderEdges finish
   ready-EX s i =
       ready-stage s EX i (omega arith)
-      ∙ simp (leb·zero, sub-zero, zero-max, max-zero, one ID i (omega arith) (λ e. omega arith))
+      ∙ simp (leb·zero, sub-zero, zero-max, max-zero, one ID i (omega arith) (λ e. omega arith) (λ e. omega arith))
 
   pub ready-WB : (s : List ℕ) (i : ℕ) → ready b lat s (node WB i) ≡ readyWB (lat (node EX i)) s i
   unfolding readyWB finishEdges orderEdges finish
@@ -100,4 +109,11 @@ module _ (b : Block) (lat : ℕ → ℕ) (one : (g i : ℕ) → g < 5 → (g ≡
   unfolding readyCM finishBack startBack finishEdges orderEdges finish
   ready-CM s i =
       ready-stage s CM i (omega arith)
-      ∙ simp (leb·zero, sub-zero, zero-max, max-zero, one WB i (omega arith) (λ e. omega arith), one CM (i - b .c) (omega arith) (λ e. omega arith))
+      ∙ simp (
+        leb·zero,
+        sub-zero,
+        zero-max,
+        max-zero,
+        one WB i (omega arith) (λ e. omega arith) (λ e. omega arith),
+        one CM (i - b .c) (omega arith) (λ e. omega arith) (λ e. omega arith),
+      )

@@ -1,18 +1,12 @@
-// A block unpacked: header, columns, last writers.
-ghost use mathlib.Core.Path.{_≡_};
-ghost use Prim.Native.Nat.{ℕ, _≤_, _<_};
-ghost use lib.ListN.{getD};
-ghost use Rattle.record.specs.inside.EntryBytes.{byteOf};
-ghost use Rattle.model.specs.Nodes.{entry, source};
-ghost use Rattle.unpacked.specs.inside.UnpackedBlock.{Shapes, code};
+// A block unpacked: header, columns.
+ghost use Prim.Native.Nat.{_≤_};
+ghost use Rattle.unpacked.specs.inside.UnpackedBlock.{Shapes, Columns};
+use crate::FIRSTS;
+use crate::HIGHS;
+use crate::LOWS;
+use crate::SECONDS;
 use crate::Shape;
 use record::Block;
-use record::Entry;
-use record::HI;
-use record::KIND;
-use record::LO;
-use record::READS1;
-use record::WRITES;
 
 // The header's numbers; and no latency of a value of the code is above 255.
 pub fn shape_of(b: Block) -> Shape
@@ -28,52 +22,26 @@ pub fn shape_of(b: Block) -> Shape
     }
 }
 
-// Byte k of an entry, from KIND to READS2.
-fn byte_of(e: Entry, k: usize) -> u8
-    requires { ⌜ k ≤ 5 ⌝ }
-    ensures { λ r. ⌜ r ≡ byteOf e k ⌝ }
-{
-    match k {
-        KIND => e.kind,
-        LO => e.lo,
-        HI => e.hi,
-        WRITES => e.writes,
-        READS1 => e.reads1,
-        _ => e.reads2,
-    }
-}
-
-// Byte k of each entry below n.
-pub fn column(b: Block, k: usize) -> [u8; 60]
-    requires { ⌜ k ≤ 5 ⌝ }
+// The columns. `last` has by register one more than the last instruction so far that writes it, 0 where there is none.
+pub fn columns_of(b: Block) -> [u8; 300]
     requires { ⌜ b .n ≤ 60 ⌝ }
-    ensures { λ r. ⌜ ((i : ℕ) → i < b .n → getD r i 0 ≡ byteOf (entry b i) k) ⌝ }
+    ensures { λ u. ⌜ Columns b u ⌝ }
 {
     let n = b.n as usize;
-    let mut a = [0u8; 60];
-    for i in 0..n {
-        let e = b.entries[i];
-        a[i] = byte_of(e, k);
-    }
-    a
-}
-
-// One more than the last instruction before each that writes the register in byte k of its entry, 0 where there is none.
-pub fn sources(b: Block, k: usize) -> [u8; 60]
-    requires { ⌜ k ≤ 5 ⌝ }
-    requires { ⌜ b .n ≤ 60 ⌝ }
-    ensures { λ r. ⌜ ((j : ℕ) → j < b .n → getD r j 0 ≡ code (source b (byteOf (entry b j) k) j)) × ((j : ℕ) → getD r j 0 ≤ 60) ⌝ }
-{
-    let n = b.n as usize;
-    let mut a = [0u8; 60];
+    let mut u = [0u8; 300];
     let mut last = [0u8; 256];
     for j in 0..n {
         let e = b.entries[j];
-        let r = byte_of(e, k) as usize;
-        a[j] = last[r];
+        u[j] = e.kind;
+        u[LOWS + j] = e.lo;
+        u[HIGHS + j] = e.hi;
+        let first = e.reads1 as usize;
+        u[FIRSTS + j] = last[first];
+        let second = e.reads2 as usize;
+        u[SECONDS + j] = last[second];
         let w = e.writes as usize;
         last[w] = (j + 1) as u8;
         last[255] = 0;
     }
-    a
+    u
 }

@@ -4,9 +4,8 @@ mod columns;
 mod numbers;
 mod stages;
 
-pub use columns::column;
+pub use columns::columns_of;
 pub use columns::shape_of;
-pub use columns::sources;
 pub use numbers::index;
 pub use numbers::larger;
 pub use numbers::small;
@@ -29,6 +28,19 @@ pub const EX: usize = 2;
 pub const WB: usize = 3;
 
 pub const CM: usize = 4;
+
+// How long a fetch takes.
+pub const FETCH: u8 = 1;
+
+// The columns of a block stand one after the other, 60 numbers each: the kinds from 0 on, then the lowest latencies, the
+// highest, and one more than the source of the first and of the second register that each instruction reads, or 0.
+pub const LOWS: usize = 60;
+
+pub const HIGHS: usize = 120;
+
+pub const FIRSTS: usize = 180;
+
+pub const SECONDS: usize = 240;
 
 // The header's numbers, as indices.
 pub struct Shape {

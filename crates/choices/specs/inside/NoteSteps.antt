@@ -10,7 +10,8 @@ use lib.ListN.{length, getD, set}
 use lib.Dec.{ltb, eqb}
 use Rattle.lists.specs.Lists.{pick, put}
 use Rattle.record.specs.declared.Block.{Block}
-use Rattle.model.specs.Cycles.{units}
+use Rattle.model.specs.Nodes.{IF, ID, EX, WB, CM, node}
+use Rattle.model.specs.Cycles.{units, playPlace}
 use Rattle.unpacked.specs.declared.Shape.{Shape}
 use Rattle.choices.specs.declared.Choice.{Choice}
 
@@ -143,7 +144,7 @@ rowInto rows x i o =
     put
     (put
     (put
-    (put (put o (15 * i) (f ∷ f ∷ getD x (268 + i) 0 ∷ [])) (15 * i + 3) ((d - 1) ∷ (d - 1) ∷ d ∷ []))
-    (15 * i + 6) (max d (sourcesOf rows x i) % 65536 ∷ (w - 1 - getD rows (4 * i + 1) 0) ∷ (w - 1) ∷ []))
-    (15 * i + 9) ((w - 1) ∷ (w - 1) ∷ w ∷ []))
-    (15 * i + 12) ((c - 1) ∷ (c - 1) ∷ c ∷ [])
+    (put (put o (playPlace (node IF i) 0) (f ∷ f ∷ getD x (268 + i) 0 ∷ [])) (playPlace (node ID i) 0) ((d - 1) ∷ (d - 1) ∷ d ∷ []))
+    (playPlace (node EX i) 0) (max d (sourcesOf rows x i) % 65536 ∷ (w - 1 - getD rows (4 * i + 1) 0) ∷ (w - 1) ∷ []))
+    (playPlace (node WB i) 0) ((w - 1) ∷ (w - 1) ∷ w ∷ []))
+    (playPlace (node CM i) 0) ((c - 1) ∷ (c - 1) ∷ c ∷ [])

@@ -2,11 +2,12 @@
 -- the rules' is in proofs/StageTimes.
 use Prim.Native.Nat.{ℕ, _+_, _-_, _%_, min, max}
 use mathlib.Core.List.{List, map}
-use lib.ListN.{getD, set}
+use lib.ListN.{set}
 use Rattle.lists.specs.Sums.{largest, sum}
 use Rattle.model.specs.Nodes.{IF, ID, EX, WB, CM, node}
+use Rattle.unpacked.specs.inside.UnpackedBlock.{highOf}
 use Rattle.unpacked.specs.inside.ReadyByStage.{readyIF, readyID, readyCM}
-use Rattle.rounds.specs.inside.PairRows.{finishEX}
+use Rattle.pairs.specs.inside.PairRows.{finishEX}
 
 -- node v starts at x
 abbrev pub starts : List ℕ → ℕ → ℕ → List ℕ
@@ -26,6 +27,6 @@ committed c l x s i =
 
 -- the latest start of an EX that is ready at r: row has its earlier ones, most is the largest latency of its later ones or 0
 unfoldable pub latestOf : List ℕ → List ℕ → List ℕ → ℕ → ℕ → ℕ
-latestOf his s row most r =
+latestOf u s row most r =
     let b = r + (max most 1 - 1) in
-    min (b + sum (map (λ j. getD his j 0) row)) (max b (largest (map (finishEX his s) row)))
+    min (b + sum (map (highOf u) row)) (max b (largest (map (finishEX u s) row)))

@@ -6,11 +6,11 @@ use mathlib.Core.Path.{_≡_}
 use mathlib.Core.Bool.{Bool, true, false, _&&_}
 use mathlib.Core.List.{List}
 use lib.Dec.{leb, ltb, eqb}
-use lib.ListN.{getD}
+use lib.ListN.{length, getD}
+use Rattle.lists.specs.Lists.{pick, numbersWhere}
 use Rattle.record.specs.declared.Block.{Block}
 use Rattle.model.specs.Nodes.{EX, node, entry, chosen}
 use Rattle.model.specs.Cycles.{start, ready, units, play}
-use Rattle.schedules.specs.inside.SumsBelow.{valueIf, countBelow}
 
 -- n instructions: kind, latency, ready time and start of each one's EX; and how many units a kind has
 pub record Work : Type 0 where
@@ -41,19 +41,23 @@ pub record Sooner (W : Work) (j t i : ℕ) : Type 0 where
 
 -- j is of i's kind and runs at t when i has its turn: it started before t, or at t and stands before i
 unfoldable pub runsAt : Work → ℕ → ℕ → ℕ → Bool
-runsAt W i t j = eqb (W .kind j) (W .kind i) && (ltb t (W .start j + W .lat j) && leb (W .start j + valueIf (leb i j) 1) t)
+runsAt W i t j = eqb (W .kind j) (W .kind i) && (ltb t (W .start j + W .lat j) && leb (W .start j + pick (leb i j) 1 0) t)
+
+-- how many they are
+abbrev pub countRunning : Work → ℕ → ℕ → ℕ
+countRunning W i t = length (numbersWhere 0 (W .n) (runsAt W i t))
 
 -- what a schedule keeps
 pub record Served (W : Work) : Type 0 where
   pub ready : (i : ℕ) → i < W .n → W .ready i ≤ W .start i
   -- what is ready and waits does so for all units of its kind
-  pub waits : (i t : ℕ) → i < W .n → W .ready i ≤ t → t < W .start i → W .units (W .kind i) ≤ countBelow (W .n) (runsAt W i t)
+  pub waits : (i t : ℕ) → i < W .n → W .ready i ≤ t → t < W .start i → W .units (W .kind i) ≤ countRunning W i t
   -- what started had a unit
-  pub room : (i : ℕ) → i < W .n → countBelow (W .n) (runsAt W i (W .start i)) < W .units (W .kind i)
+  pub room : (i : ℕ) → i < W .n → countRunning W i (W .start i) < W .units (W .kind i)
 
 -- how many of kind k, of those that S has, finish after t
 unfoldable pub held : Work → (ℕ → Bool) → ℕ → ℕ → ℕ
-held W S k t = countBelow (W .n) (λ j. S j && (eqb (W .kind j) k && ltb t (W .start j + W .lat j)))
+held W S k t = length (numbersWhere 0 (W .n) (λ j. S j && (eqb (W .kind j) k && ltb t (W .start j + W .lat j))))
 
 -- of one kind, what S has starts before what it has not
 pub record Front (W : Work) (S : ℕ → Bool) : Type 0 where

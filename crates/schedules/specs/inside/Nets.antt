@@ -3,9 +3,10 @@
 -- needs to believe them. That every play of the model is a schedule of its block's net is in proofs/PlaySchedule.
 use Prim.Native.Nat.{ℕ, _+_, _≤_, _<_}
 use mathlib.Core.Path.{_≡_}
-use mathlib.Core.Bool.{Bool, not, _&&_}
-use lib.Dec.{T, leb, ltb, eqb}
-use Rattle.schedules.specs.inside.SumsBelow.{valueIf, countBelow}
+use mathlib.Core.Bool.{Bool, true, false, _&&_}
+use lib.Dec.{leb, ltb, eqb}
+use lib.ListN.{length}
+use Rattle.lists.specs.Lists.{pick, numbersWhere}
 
 -- the nodes are those below N. Edges lead up, none that leaves an EX is an order edge, each lowest latency is 1 at least,
 -- and each kind has a unit
@@ -23,7 +24,7 @@ pub record Net : Type 1 where
   pub units : ℕ → ℕ
   pub fin-lt : (u v : ℕ) → Fin u v → u < v
   pub ord-lt : (u v : ℕ) → Ord u v → u < v
-  pub ex-ord : (u v : ℕ) → T (ex u) → Ord u v → ⊥
+  pub ex-ord : (u v : ℕ) → ex u ≡ true → Ord u v → ⊥
   pub lo-pos : (v : ℕ) → v < N → 1 ≤ lo v
   pub units-pos : (k : ℕ) → 1 ≤ units k
 
@@ -50,11 +51,15 @@ peer G v u = G .ex u && eqb (G .kind u) (G .kind v)
 
 -- those of them that run at t when v has its turn: they started before t, or at t and stand before v
 unfoldable pub busy : Net → (ℕ → ℕ) → (ℕ → ℕ) → ℕ → ℕ → ℕ → Bool
-busy G lat s v t u = peer G v u && (ltb t (s u + lat u) && leb (s u + valueIf (leb v u) 1) t)
+busy G lat s v t u = peer G v u && (ltb t (s u + lat u) && leb (s u + pick (leb v u) 1 0) t)
 
--- the same as facts
+-- how many they are
+abbrev pub countBusy : Net → (ℕ → ℕ) → (ℕ → ℕ) → ℕ → ℕ → ℕ
+countBusy G lat s v t = length (numbersWhere 0 (G .N) (busy G lat s v t))
+
+-- that one of them runs, as facts
 pub record Busy (G : Net) (lat s : ℕ → ℕ) (v t u : ℕ) : Type 0 where
-  pub ex : T (G .ex u)
+  pub ex : G .ex u ≡ true
   pub same : G .kind u ≡ G .kind v
   pub runs : t < s u + lat u
   pub begun : s u ≤ t
@@ -66,8 +71,8 @@ pub record Sched (G : Net) (lat : ℕ → ℕ) (H : ℕ) (s : ℕ → ℕ) : Typ
   -- what has started was ready
   pub ready : (v : ℕ) → v < G .N → s v < H → Done G lat s v (s v)
   -- off EX nothing waits
-  pub prompt : (v t : ℕ) → v < G .N → T (not (G .ex v)) → t < s v → Done G lat s v t → ⊥
+  pub prompt : (v t : ℕ) → v < G .N → G .ex v ≡ false → t < s v → Done G lat s v t → ⊥
   -- at EX what waits does so for all units of its kind
-  pub waits : (v t : ℕ) → v < G .N → T (G .ex v) → t < s v → Done G lat s v t → G .units (G .kind v) ≤ countBelow (G .N) (busy G lat s v t)
+  pub waits : (v t : ℕ) → v < G .N → G .ex v ≡ true → t < s v → Done G lat s v t → G .units (G .kind v) ≤ countBusy G lat s v t
   -- what started had a unit
-  pub room : (v : ℕ) → v < G .N → T (G .ex v) → s v < H → countBelow (G .N) (busy G lat s v (s v)) < G .units (G .kind v)
+  pub room : (v : ℕ) → v < G .N → G .ex v ≡ true → s v < H → countBusy G lat s v (s v) < G .units (G .kind v)

@@ -1,18 +1,28 @@
 -- `analysis::operations::analyse` meets its contract. Assumes nothing.
+use mathlib.Core.Path.{_≡_}
+use Rattle.record.specs.Refusals.{blockVerdict}
 use Rattle.record.proofs.Answers.{accepted-so}
-use Rattle.analysis.proofs.Outcomes.{analyse-refused, analyse-output, analyse-done}
+use Rattle.analysis.proofs.Outcomes.{analyse-done, analyse-output, analyse-refused}
 use borrow.Author.Needs.{needs}
 use Rattle.analysis.proofs.operations.analyse.Statement.{statement}
 use Rattle.analysis.proofs.operations.analyse.Tie as tie
 
+-- the places that the answers look back to
+abbrev tested-of : tie.After-enum-told2 → tie.After-block-answer
+tested-of c = c .before .before
+
+abbrev told-of : tie.After-result-into → tie.After-enum-told2
+told-of c = c .before .before .before
+
+-- the block is accepted
+accepted : (c : tie.After-enum-told2) → blockVerdict (tested-of c .before .before .args .b) ≡ (0, 0)
+accepted c = accepted-so _ (c .enum-told2 .given .1) (tested-of c .block-answer .ensures .answer)
+
 returns : tie.Need-returns
-returns c =
-    let t = c .before .before .before .block-answer .ensures in
-    analyse-output _ _ (t .whole) (accepted-so _ (c .before .enum-told2 .given .1) (t .answer)) (c .if1 .taken)
+returns c = analyse-output _ _ (tested-of (c .before) .block-answer .ensures .whole) (accepted (c .before)) (c .if1 .taken)
 
 result-into-requires : tie.Need-result-into-requires
-result-into-requires c κs =
-    (accepted-so _ (c .before .before .enum-told2 .given .1) (c .before .before .before .before .block-answer .ensures .answer), search needs)
+result-into-requires c κs = (accepted (c .before .before), search needs)
 
 returns-2 : tie.Need-returns-2
 returns-2 c =
@@ -21,10 +31,10 @@ returns-2 c =
 
 returns-3 : tie.Need-returns-3
 returns-3 c =
-    let x = c .before .before .before .before .before .before .before .before .before .args in
-    let t = c .before .before .before .before .before .before .before .block-answer .ensures in
-    let z = accepted-so _ (c .before .before .before .before .before .enum-told2 .given .1) (t .answer) in
-    analyse-done (x .b) (x .out .now) (t .whole) z (search needs) _ (c .before .before .result-into .ensures)
+    let done = c .before .before in
+    let told = told-of done in
+    let x = tested-of told .before .before .args in
+    analyse-done (x .b) (x .out .now) (tested-of told .block-answer .ensures .whole) (accepted told) (search needs) _ (done .result-into .ensures)
 
 pub analyse-spec : {M : Type 1} → statement M
 analyse-spec =

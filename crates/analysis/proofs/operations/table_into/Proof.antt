@@ -1,41 +1,56 @@
 -- `analysis::operations::table_into` meets its contract. Assumes nothing.
-use Rattle.unpacked.proofs.BlockColumns.{few, lo-column, hi-column, sourced}
+use mathlib.Core.Path.{_∙_, refl}
+use native.Mathlib.Omega.{arith}
+use Rattle.unpacked.specs.inside.UnpackedBlock.{Unpacked}
+use Rattle.unpacked.proofs.BlockColumns.{few, within}
+use Rattle.analysis.proofs.WindowTable.{table-is}
 use borrow.Author.Needs.{needs}
 use Rattle.analysis.proofs.operations.table_into.Statement.{statement}
 use Rattle.analysis.proofs.operations.table_into.Tie as tie
 
-column-requires : tie.Need-column-requires
-column-requires c κs = (search needs, few (c .before .before .before .before .before .before .args .b) (c .before .before .before .before .before .before .pre .0))
+-- the places that the answers look back to
+abbrev shape-of : tie.After-columns-of → tie.After-shape-of
+shape-of c = c .before
 
-column-requires-2 : tie.Need-column-requires-2
-column-requires-2 c κs = (search needs, few (c .before .before .before .before .before .before .before .args .b) (c .before .before .before .before .before .before .before .pre .0))
+abbrev columns-of : tie.After-times-into → tie.After-columns-of
+columns-of c = c .before .before .before .before
 
-sources-requires : tie.Need-sources-requires
-sources-requires c κs = (search needs, few (c .before .before .before .before .before .before .before .before .args .b) (c .before .before .before .before .before .before .before .before .pre .0))
+abbrev times-of : tie.After-put-table → tie.After-times-into
+times-of c = c .before .before .before .before .before
 
-sources-requires-2 : tie.Need-sources-requires-2
-sources-requires-2 c κs = (search needs, few (c .before .before .before .before .before .before .before .before .before .args .b) (c .before .before .before .before .before .before .before .before .before .pre .0))
+-- the block unpacked
+module _ (c : tie.After-columns-of) where
+  abbrev start : tie.Start
+  start = shape-of c .before .before
+
+  U : Unpacked (start .args .b) (shape-of c .shape-of .result) (c .columns-of .result)
+  U = record { accepted = start .pre .0; shape = shape-of c .shape-of .ensures; columns = c .columns-of .ensures }
+
+columns-of-requires : tie.Need-columns-of-requires
+columns-of-requires c κs = few (c .before .before .args .b) (c .before .before .pre .0)
+
+times-into-requires : tie.Need-times-into-requires
+times-into-requires c κs =
+    let columns = c .before .before .before in
+    (record { b = start columns .args .b; unpacked = U columns }, refl, refl)
 
 put-table-requires : tie.Need-put-table-requires
 put-table-requires c κs =
-    let b = c .before .before .before .before .before .before .before .before .before .before .before .before .before .before .before .before .before .args .b in
-    let z = c .before .before .before .before .before .before .before .before .before .before .before .before .before .before .before .before .before .pre .0 in
-    let l = c .before .before .before .before .before .before .before .before .before .before .before .before .before .times-into in
-    let lo = c .before .before .before .before .before .before .before .before .before .before .column in
-    let his = c .before .before .before .before .before .before .before .before .before .column2 in
-    let s1 = c .before .before .before .before .before .before .before .before .sources in
-    let s2 = c .before .before .before .before .before .before .before .sources2 in (
-      (lo .ok .1 .0 .1, his .ok .1 .0 .1, s1 .ok .1 .0 .1, s2 .ok .1 .0 .1, l .kept .1 .0, l .kept .1 .1 .0, c .before .before .before .before .before .before .before .before .before .before .before .before .before .before .before .before .before .pre .1),
-      (
-        (z, sourced b (s1 .result) (s2 .result) (s1 .ensures .0) (s2 .ensures .0), l .ensures .1 .1, s1 .ensures .1, s2 .ensures .1),
-        ((lo-column b (lo .result) (lo .ensures), hi-column b (his .result) (his .ensures)), l .ensures .1 .0),
-      ),
-    )
+    let columns = columns-of (c .before .before .before .before) in
+    record { leads = within _ _ _ (U columns); room = omega (arith, U columns .shape .n, start columns .pre .1) }
+
+returns : tie.Need-returns
+returns c =
+    let put = c .before .before in
+    let at = times-of put in
+    let columns = columns-of at in
+    let b = start columns .args .b in
+    let r = at .times-into .ensures in
+    put .put-table .ensures
+    ∙ table-is b _ _ _ _ (U columns) (r .soonest .times b (U columns)) (r .latest .times b (U columns)) _
 
 pub table-into-spec : {M : Type 1} → statement M
 table-into-spec =
     tie.close
-    (tie.spec (λ c. search needs) (λ c. search needs) (λ c κs. search needs) column-requires column-requires-2
-    sources-requires sources-requires-2 (λ c. search needs) (λ c. search needs) (λ c. search needs)
-    (λ c. search needs) (λ c. search needs) (λ c. search needs) put-table-requires (λ c. search needs)
-    (λ c. search needs))
+    (tie.spec (λ c κs. search needs) columns-of-requires times-into-requires put-table-requires (λ c. search needs)
+    returns)

@@ -5,14 +5,10 @@ use Rattle.analysis.proofs.outputs.latest_ready.Statement.{statement}
 use Rattle.analysis.proofs.outputs.latest_ready.Tie as tie
 
 returns : tie.Need-returns
-returns c =
-    let a = c .before .before .before .args in
-    (rw (eq-eqb (a .g) 2 (search needs)) (search needs), search needs)
+returns c = (rw (eq-eqb (c .before .before .args .g) 2 (search needs)) (search needs), search needs)
 
 returns-2 : tie.Need-returns-2
-returns-2 c =
-    let a = c .before .before .before .before .args in
-    (rw (ne-eqb (a .g) 2 (search needs)) (search needs), search needs)
+returns-2 c = (rw (ne-eqb (c .before .before .before .args .g) 2 (search needs)) (search needs), search needs)
 
 pub latest-ready-spec : {M : Type 1} → statement M
 latest-ready-spec =

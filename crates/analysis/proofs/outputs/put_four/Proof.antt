@@ -8,10 +8,17 @@ use borrow.Author.Needs.{needs}
 use Rattle.analysis.proofs.outputs.put_four.Statement.{statement}
 use Rattle.analysis.proofs.outputs.put_four.Tie as tie
 
+-- the places that the answer looks back to
+abbrev start-of : tie.After-low2 → tie.Start
+start-of c = c .before .before .before .before
+
+abbrev second-of : tie.After-high4 → tie.After-low2
+second-of c = c .before .before .before .before .before
+
 returns : tie.Need-returns
 unfolding fourOf bytes
 returns c =
-    let a = c .before .before .before .before .before .before .before .before .before .args in
+    let a = start-of (second-of c) .args in
     rw (add-one, add-two, add-three, add-four, add-five, add-six, add-seven)
     (rw (
       c .before .before .before .before .before .before .before .low .ensures,

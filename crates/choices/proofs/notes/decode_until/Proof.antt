@@ -1,12 +1,11 @@
 -- `choices::notes::decode_until` meets its contract: the instructions passed are noted. Assumes nothing.
 use Prim.Native.Nat.{ℕ, _+_, _≤_, _-_, min}
-use mathlib.Core.Path.{_≡_, sym}
+use mathlib.Core.Path.{_≡_, refl}
 use mathlib.Core.List.{List}
 use native.Mathlib.Omega.{arith}
 use Rattle.record.specs.declared.Block.{Block}
-use Rattle.model.specs.Nodes.{IF}
+use Rattle.model.specs.Nodes.{fetch}
 use Rattle.unpacked.specs.inside.UnpackedBlock.{Shapes}
-use Rattle.model.proofs.Latencies.{chosen-one}
 use Rattle.choices.specs.inside.InstructionRows.{Playing}
 use Rattle.choices.specs.inside.PlayNotes.{Notes}
 use Rattle.choices.proofs.NotesDecoded.{notes-decoded}
@@ -17,7 +16,8 @@ use Rattle.choices.proofs.notes.decode_until.Tie as tie
 abbrev Inv-loop : tie.InvT-loop
 Inv-loop h from end x₀ i₀ x i =
     (from ≤ i) × (from ≤ end → i ≤ end)
-    × ((b : Block) (l rows : List ℕ) (c : ℕ) → Playing b l rows → Shapes b h → end ≤ min (b .n) (c + b .w) → Notes b l c from x₀ → Notes b l c i x)
+    × ((b : Block) (l rows : List ℕ) (c : ℕ) → Playing b l rows → Shapes b h → end ≤ min (b .n) (c + b .w)
+    → Notes b l c from x₀ → Notes b l c i x)
 
 abbrev μ-loop : tie.MeasureT-loop
 μ-loop h from end x₀ i₀ x i = end - i
@@ -35,9 +35,8 @@ loop-again c =
       search needs,
       λ k. search needs,
       λ b l rows d P H e N.
-          let one = sym (chosen-one b l IF (t .i) (omega arith) (λ q. omega arith)) in
           rw (c .decode-one .ensures)
-          (notes-decoded b l rows P (a .h) H d (t .i) (t .x) (t .inv .2 b l rows d P H e N) 1 one (omega arith) (omega arith)),
+          (notes-decoded b l rows P (a .h) H d (t .i) (t .x) (t .inv .2 b l rows d P H e N) fetch refl (omega arith) (omega arith)),
     )
 
 returns : tie.Need-returns Inv-loop μ-loop

@@ -5,6 +5,8 @@ use mathlib.Core.List.{List, [], _∷_}
 use native.Mathlib.Omega.{arith}
 use lib.ListN.{getD}
 use Rattle.lists.specs.Lists.{put}
+use Rattle.model.specs.Nodes.{IF, ID, EX, WB, CM, node}
+use Rattle.model.specs.Cycles.{playPlace}
 use Rattle.choices.specs.inside.NoteSteps.{sourcesOf, rowInto}
 use borrow.Author.Needs.{needs}
 use Rattle.choices.proofs.table.put_row.Statement.{statement}
@@ -13,11 +15,11 @@ use Rattle.choices.proofs.table.put_row.Tie as tie
 -- five puts of three numbers
 module _ (rows x : List ℕ) (i : ℕ) (o : List ℕ) where
   row-puts : {u s y r : ℕ} {o1 o2 o3 o4 o5 : List ℕ} → u ≡ getD x (360 + i) 0 → s ≡ sourcesOf rows x i → y ≡ max u s → r ≡ y % 65536
-      → o1 ≡ put o (15 * i) (getD x (176 + i) 0 ∷ getD x (176 + i) 0 ∷ getD x (268 + i) 0 ∷ [])
-      → o2 ≡ put o1 (15 * i + 3) ((getD x (360 + i) 0 - 1) ∷ (getD x (360 + i) 0 - 1) ∷ getD x (360 + i) 0 ∷ [])
-      → o3 ≡ put o2 (15 * i + 6) (r ∷ (getD x (i + 1) 0 - 1 - getD rows (4 * i + 1) 0) ∷ (getD x (i + 1) 0 - 1) ∷ [])
-      → o4 ≡ put o3 (15 * i + 9) ((getD x (i + 1) 0 - 1) ∷ (getD x (i + 1) 0 - 1) ∷ getD x (i + 1) 0 ∷ [])
-      → o5 ≡ put o4 (15 * i + 12) ((getD x (452 + i) 0 - 1) ∷ (getD x (452 + i) 0 - 1) ∷ getD x (452 + i) 0 ∷ [])
+      → o1 ≡ put o (playPlace (node IF i) 0) (getD x (176 + i) 0 ∷ getD x (176 + i) 0 ∷ getD x (268 + i) 0 ∷ [])
+      → o2 ≡ put o1 (playPlace (node ID i) 0) ((getD x (360 + i) 0 - 1) ∷ (getD x (360 + i) 0 - 1) ∷ getD x (360 + i) 0 ∷ [])
+      → o3 ≡ put o2 (playPlace (node EX i) 0) (r ∷ (getD x (i + 1) 0 - 1 - getD rows (4 * i + 1) 0) ∷ (getD x (i + 1) 0 - 1) ∷ [])
+      → o4 ≡ put o3 (playPlace (node WB i) 0) ((getD x (i + 1) 0 - 1) ∷ (getD x (i + 1) 0 - 1) ∷ getD x (i + 1) 0 ∷ [])
+      → o5 ≡ put o4 (playPlace (node CM i) 0) ((getD x (452 + i) 0 - 1) ∷ (getD x (452 + i) 0 - 1) ∷ getD x (452 + i) 0 ∷ [])
       → o5 ≡ rowInto rows x i o
   unfolding rowInto
   row-puts u s y r e1 e2 e3 e4 e5 = rw (e5, e4, e3, e2, e1, r, y, s, u) refl
@@ -54,12 +56,6 @@ sub-put-three-8 c = start-of-fifth c .pre .2 .committed
 sub-put-three-9 : tie.Need-sub-put-three-9
 sub-put-three-9 c = start-of-fifth c .pre .2 .committed
 
-mul-put-three-7 : tie.Need-mul-put-three-7
-mul-put-three-7 c = record { fits = omega (arith, start-of-fifth c .pre .1 .few) }
-
-add-put-three-6 : tie.Need-add-put-three-6
-add-put-three-6 c = record { fits = omega (arith, start-of-fifth c .pre .1 .few) }
-
 put-three-requires-5 : tie.Need-put-three-requires-5
 put-three-requires-5 c κs =
     let fourth = c .before .before .before in
@@ -67,11 +63,11 @@ put-three-requires-5 c κs =
     let second = second-of third in
     let first = first-of second in
     let p = start-of (time-of first) .pre in
-    let e1 = first .put-three .kept .1 .1 .1 .1 .0 in
-    let e2 = second .put-three2 .kept .1 .1 .1 .1 .0 in
-    let e3 = third .put-three3 .kept .1 .1 .1 .1 .0 in
-    let e4 = fourth .put-three4 .kept .1 .1 .1 .1 .0 in
-    (omega (arith, p .0, e1, e2, e3, e4), omega (arith, p .1 .few))
+    let e1 = first .put-three .kept .1 .1 .1 .1 .1 .0 in
+    let e2 = second .put-three2 .kept .1 .1 .1 .1 .1 .0 in
+    let e3 = third .put-three3 .kept .1 .1 .1 .1 .1 .0 in
+    let e4 = fourth .put-three4 .kept .1 .1 .1 .1 .1 .0 in
+    (p .1 .few, omega arith, omega (arith, p .0, e1, e2, e3, e4))
 
 returns : tie.Need-returns
 returns c =
@@ -91,12 +87,9 @@ pub put-row-spec : {M : Type 1} → statement M
 put-row-spec =
     tie.close
     (tie.spec (λ c. search needs) (λ c. search needs) (λ c. search needs) (λ c. search needs) (λ c. search needs)
-    (λ c. search needs) (λ c. search needs) (λ c. search needs) (λ c. search needs) (λ c. search needs)
-    (λ c. search needs) (λ c. search needs) (λ c κs. search needs) (λ c κs. search needs) (λ c κs. search needs)
-    (λ c κs. search needs) (λ c. search needs) (λ c. search needs) (λ c. search needs) (λ c. search needs)
-    (λ c κs. search needs) (λ c. search needs) (λ c. search needs) (λ c. search needs) (λ c. search needs)
-    (λ c κs. search needs) (λ c. search needs) (λ c. search needs) (λ c. search needs) (λ c. search needs)
-    cast-put-three (λ c. search needs) (λ c. search needs) (λ c. search needs) (λ c. search needs)
-    (λ c κs. search needs) (λ c. search needs) (λ c. search needs) (λ c. search needs) (λ c. search needs)
-    (λ c κs. search needs) sub-put-three-8 sub-put-three-9 mul-put-three-7 add-put-three-6 put-three-requires-5
-    (λ c. search needs) returns)
+    (λ c. search needs) (λ c. search needs) (λ c. search needs) (λ c. search needs) (λ c. search needs) (λ c. search needs)
+    (λ c. search needs) (λ c κs. search needs) (λ c κs. search needs) (λ c κs. search needs) (λ c κs. search needs)
+    (λ c. search needs) (λ c. search needs) (λ c. search needs) (λ c κs. search needs) (λ c. search needs) (λ c. search needs)
+    (λ c κs. search needs) (λ c. search needs) (λ c. search needs) (λ c. search needs) (λ c. search needs) cast-put-three
+    (λ c. search needs) (λ c. search needs) (λ c κs. search needs) (λ c. search needs) (λ c. search needs)
+    (λ c κs. search needs) sub-put-three-8 sub-put-three-9 put-three-requires-5 (λ c. search needs) returns)

@@ -1,6 +1,7 @@
--- `choices::table::put_three` meets its contract: three stores in a row. Assumes nothing.
+-- `choices::table::put_three` meets its contract: three stores in a row, from the node's place on. Assumes nothing.
 use mathlib.Core.List.{[], _∷_}
 use native.Mathlib.Numerals.{add-one, add-two}
+use native.Mathlib.Omega.{arith}
 use lib.ListN.{length-set}
 use lib.Seq.{sets-eq}
 use borrow.Author.Needs.{needs}
@@ -15,11 +16,11 @@ slice-write-out-3 c = simp length-set (search needs)
 
 returns : tie.Need-returns
 returns c =
-    let a = c .args in
-    rw (add-one, add-two) (sets-eq (a .ready ∷ a .start ∷ a .finish ∷ []) (a .out .now) (a .at) (search needs))
+    let a = c .before .before .args in
+    rw (c .play-place .ensures, add-one, add-two) (sets-eq (a .ready ∷ a .start ∷ a .finish ∷ []) (a .out .now) _ (omega (arith, c .before .before .pre .2)))
 
 pub put-three-spec : {M : Type 1} → statement M
 put-three-spec =
     tie.close
-    (tie.spec (λ c. search needs) (λ c. search needs) (λ c. search needs) (λ c. search needs) slice-write-out-2
+    (tie.spec (λ c κs. search needs) (λ c. search needs) (λ c. search needs) (λ c. search needs) (λ c. search needs) slice-write-out-2
     (λ c. search needs) (λ c. search needs) slice-write-out-3 (λ c. search needs) returns)

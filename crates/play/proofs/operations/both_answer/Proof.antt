@@ -1,5 +1,6 @@
 -- `play::operations::both_answer` meets its contract. Assumes nothing.
-use mathlib.Core.Path.{sym, _∙_}
+use mathlib.Core.Path.{_≡_, sym, _∙_}
+use Rattle.record.specs.Refusals.{blockVerdict}
 use Rattle.record.proofs.Answers.{accepted-so}
 use Rattle.play.proofs.Outcomes.{both-refused, room-enough}
 use Rattle.unpacked.proofs.BlockColumns.{few}
@@ -7,9 +8,19 @@ use borrow.Author.Needs.{needs}
 use Rattle.play.proofs.operations.both_answer.Statement.{statement}
 use Rattle.play.proofs.operations.both_answer.Tie as tie
 
+-- the places that the answers look back to
+abbrev start-of : tie.After-block-answer → tie.Start
+start-of c = c .before .before
+
+abbrev block-of : tie.After-enum-told2 → tie.After-block-answer
+block-of c = c .before .before
+
+-- past the tests of the block
+accepted : (c : tie.After-enum-told2) → blockVerdict (start-of (block-of c) .args .b) ≡ (0, 0)
+accepted c = accepted-so _ (c .enum-told2 .given .1) (block-of c .block-answer .ensures .answer)
+
 lent-answer-requires : tie.Need-lent-answer-requires
-lent-answer-requires c κs =
-    few (c .before .before .before .before .args .b) (accepted-so _ (c .enum-told2 .given .1) (c .before .before .block-answer .ensures .answer))
+lent-answer-requires c κs = few (start-of (block-of c) .args .b) (accepted c)
 
 returns : tie.Need-returns
 returns c =
@@ -18,8 +29,8 @@ returns c =
 
 returns-2 : tie.Need-returns-2
 returns-2 c =
-    let t = c .before .before .before .block-answer .ensures in
-    (c .lent-answer .ensures ∙ sym (room-enough _ _ (accepted-so _ (c .before .enum-told2 .given .1) (t .answer))), t .whole)
+    let told = c .before in
+    (c .lent-answer .ensures ∙ sym (room-enough _ _ (accepted told)), block-of told .block-answer .ensures .whole)
 
 pub both-answer-spec : {M : Type 1} → statement M
 both-answer-spec =

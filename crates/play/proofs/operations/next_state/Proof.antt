@@ -1,66 +1,69 @@
 -- `play::operations::next_state` meets its contract: a state holds 300 starts, and in a fit one none is after its cycle. Assumes nothing.
-use mathlib.Core.Path.{_≡_, sym, _∙_}
+use mathlib.Core.Path.{_≡_, sym, subst, _∙_}
+use Prim.Native.Nat.{ℕ}
 use native.Mathlib.Omega.{arith}
 use lib.ListN.{length, length-map}
 use Rattle.model.specs.Nodes.{chosen}
+use Rattle.unpacked.specs.inside.UnpackedBlock.{Unpacked}
+use Rattle.unpacked.proofs.BlockColumns.{few, within}
+use Rattle.cycles.specs.inside.PlayFacts.{Timed}
 use Rattle.play.specs.Promises.{stateOf}
-use Rattle.play.specs.inside.PlayFacts.{Timed}
 use Rattle.play.proofs.UnfitStates.{fit-now, fit-timed}
 use Rattle.play.proofs.LatencyList.{listed}
-use Rattle.unpacked.proofs.BlockColumns.{few, unpacked}
-use Rattle.play.proofs.KindsAndLength.{kinds-are, kinds-four, cycled}
+use Rattle.play.proofs.LengthAndState.{cycled}
 use borrow.Author.Needs.{needs}
 use Rattle.play.proofs.operations.next_state.Statement.{statement}
 use Rattle.play.proofs.operations.next_state.Tie as tie
 
-column-requires : tie.Need-column-requires
-column-requires c κs = (search needs, few (c .before .before .args .b) (c .before .before .pre .0))
+-- the places that the answers look back to
+abbrev start-of : tie.After-columns-of → tie.Start
+start-of c = c .before .before .before
 
-sources-requires : tie.Need-sources-requires
-sources-requires c κs = (search needs, few (c .before .before .before .args .b) (c .before .before .before .pre .0))
+abbrev columns-of : tie.After-wide → tie.After-columns-of
+columns-of c = c .before .before .before
 
-sources-requires-2 : tie.Need-sources-requires-2
-sources-requires-2 c κs = (search needs, few (c .before .before .before .before .args .b) (c .before .before .before .before .pre .0))
+abbrev wide-of : tie.After-cycle-into → tie.After-wide
+wide-of c = c .before .before
+
+columns-of-requires : tie.Need-columns-of-requires
+columns-of-requires c κs = let start = c .before .before in few (start .args .b) (start .pre .0)
+
+long : (c : tie.After-columns-of) → length (start-of c .args .p .starts) ≡ 300
+long c = let start = start-of c in sym (length-map (start .args .p .starts) _) ∙ start .good .1 .1 .0 .1 .1 .1 .0 .1 .0 .1
+
+unpacked : (c : tie.After-columns-of) → Unpacked (start-of c .args .b) (c .before .shape-of .result) (c .columns-of .result)
+unpacked c = record { accepted = start-of c .pre .0; shape = c .before .shape-of .ensures; columns = c .columns-of .ensures }
+
+timed : (c : tie.After-wide) → Timed (c .wide .result) (start-of (columns-of c) .args .p .starts)
+timed c =
+    let start = start-of (columns-of c) in
+    let a = start .args in
+    subst (λ (t : ℕ). Timed t (a .p .starts)) (sym (c .wide .ensures .0)) (fit-timed (a .b) (stateOf (a .p)) (long (columns-of c)) (start .pre .2))
 
 cycle-into-requires : tie.Need-cycle-into-requires
 cycle-into-requires c κs =
-    let a = c .before .before .before .before .before .before .before .before .before .before .before .args in
-    let p = c .before .before .before .before .before .before .before .before .before .before .before .pre in
-    let s = a .p .starts in
-    let m : length s ≡ 300 = sym (length-map s _) ∙ c .before .before .before .before .before .before .before .before .before .before .before .good .1 .1 .0 .1 .1 .1 .0 .1 .0 .1 in
-    let n = c .before .before .before .before .before .before .before .before .before .shape-of .ensures .n in
-    let k = c .before .before .before .before .before .before .before .before .column in
-    let x = c .before .before .before .before .before .before .before .sources in
-    let y = c .before .before .before .before .before .before .sources2 in (
-      (omega (arith, fit-now (a .b) (stateOf (a .p)) (p .2), c .before .wide .ensures .0), omega (arith, few (a .b) (p .0)), k .ok .1 .0 .1, omega (arith, listed (a .b) (a .lat .now) (p .1)), x .ok .1 .0 .1, y .ok .1 .0 .1, m),
-      (λ i l. kinds-four (a .b) (p .0) (k .result) (k .ensures) i (omega arith), x .ensures .1, y .ensures .1),
-    )
+    let wide = c .before in
+    let columns = columns-of wide in
+    let start = start-of columns in
+    let U = unpacked columns in
+    let n = listed (start .args .b) (start .args .lat .now) (start .pre .1) in
+    (timed wide .now, record { within = within _ _ _ U; list = omega (arith, n, U .shape .n); long = long columns })
 
-add-t20 : tie.Need-add-t20
-add-t20 c =
-    let a = c .before .before .before .before .before .before .before .before .before .before .before .before .before .before .args in
-    let p = c .before .before .before .before .before .before .before .before .before .before .before .before .before .before .pre in
-    record { fits = omega (arith, fit-now (a .b) (stateOf (a .p)) (p .2)) }
+add-t12 : tie.Need-add-t12
+add-t12 c =
+    let start = start-of (columns-of (wide-of (c .before))) in
+    record { fits = omega (arith, fit-now (start .args .b) (stateOf (start .args .p)) (start .pre .2)) }
 
 returns : tie.Need-returns
 returns c =
-    let a = c .before .before .before .before .before .before .before .before .before .before .before .before .before .before .args in
-    let p = c .before .before .before .before .before .before .before .before .before .before .before .before .before .before .pre in
-    let s = a .p .starts in
-    let m : length s ≡ 300 = sym (length-map s _) ∙ c .before .before .before .before .before .before .before .before .before .before .before .before .before .before .good .1 .1 .0 .1 .1 .1 .0 .1 .0 .1 in
-    let h = c .before .before .before .before .before .before .before .before .before .before .before .before .shape-of in
-    let k = c .before .before .before .before .before .before .before .before .before .before .before .column in
-    let x = c .before .before .before .before .before .before .before .before .before .before .sources in
-    let y = c .before .before .before .before .before .before .before .before .before .sources2 in
-    let U = unpacked (a .b) (p .0) (h .result) (x .result) (y .result) (h .ensures) (x .ensures .0) (y .ensures .0) in
-    let L = kinds-are (a .b) (k .result) (k .ensures) in
-    let t = c .before .before .before .before .wide in
-    let w : Timed (t .result) s = rw (t .ensures .0) (fit-timed (a .b) (stateOf (a .p)) m (p .2)) in
-    cycled (a .b) (chosen (a .b) (a .lat .now)) (stateOf (a .p)) (t .result) _ (t .ensures .0) (c .before .before .cycle-into .ensures (a .b) U L w)
+    let into = c .before in
+    let wide = wide-of into in
+    let columns = columns-of wide in
+    let a = start-of columns .args in
+    let starts = into .cycle-into .ensures .played (a .b) (unpacked columns) (timed wide) in
+    cycled (a .b) (chosen (a .b) (a .lat .now)) (stateOf (a .p)) (wide .wide .result) _ (wide .wide .ensures .0) starts
 
 pub next-state-spec : {M : Type 1} → statement M
 next-state-spec =
     tie.close
-    (tie.spec (λ c κs. search needs) column-requires sources-requires sources-requires-2 (λ c. search needs)
-    (λ c. search needs) (λ c. search needs) (λ c κs. search needs) (λ c. search needs) cycle-into-requires add-t20
-    returns)
+    (tie.spec (λ c κs. search needs) columns-of-requires (λ c κs. search needs) cycle-into-requires add-t12 returns)

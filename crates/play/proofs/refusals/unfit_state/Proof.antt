@@ -4,8 +4,8 @@ use mathlib.Core.Bool.{false}
 use Prim.Native.Nat.{ℕ, _≤_, _<_, _-_, _*_}
 use native.Mathlib.Omega.{arith}
 use borrow.Author.Count.{below-none, below-more}
-use Rattle.model.specs.Cycles.{start}
-use Rattle.play.specs.inside.NodeTurn.{unfitAt}
+use Rattle.model.specs.Cycles.{lastCycle, start}
+use Rattle.play.specs.inside.StartTest.{unfitAt}
 use Rattle.play.specs.Promises.{stateOf}
 use Rattle.play.proofs.UnfitStates.{unfit-after, unfit-here, unfit-none}
 use borrow.Author.Needs.{needs}
@@ -13,10 +13,19 @@ use Rattle.play.proofs.refusals.unfit_state.Statement.{statement}
 use Rattle.play.proofs.refusals.unfit_state.Tie as tie
 
 abbrev Inv-loop : tie.InvT-loop
-Inv-loop n p end v₀ v = (v ≤ 300) × (end ≡ 5 * n) × (p .t ≤ 30779) × ((u : ℕ) → u < v → unfitAt (p .t) end u (start (p .starts) u) ≡ false)
+Inv-loop n p end v₀ v =
+    (v ≤ 300) × (end ≡ 5 * n) × (p .t ≤ lastCycle)
+    × ((u : ℕ) → u < v → unfitAt (p .t) end u (start (p .starts) u) ≡ false)
 
 abbrev μ-loop : tie.MeasureT-loop
 μ-loop n p end v₀ v = 300 - v
+
+-- the places that the answers look back to
+abbrev start-of : tie.At-loop Inv-loop μ-loop → tie.Start Inv-loop μ-loop
+start-of c = c .before .before
+
+abbrev loop-of : tie.After-is-unfit Inv-loop μ-loop → tie.At-loop Inv-loop μ-loop
+loop-of c = c .before .before .before
 
 returns : tie.Need-returns Inv-loop μ-loop
 returns c b e = sym (unfit-after b (stateOf (c .before .args .t2)) (omega arith))
@@ -26,18 +35,19 @@ loop-holds c = (search needs, search needs, omega arith, below-none _)
 
 returns-2 : tie.Need-returns-2 Inv-loop μ-loop
 returns-2 c b e =
-    let a = c .before .before .before .before .before .before .args in
-    let t = c .before .before .before .before .loop in
-    sym (unfit-here b (stateOf (a .t2)) (search needs) (5 * a .n) (omega arith) (t .v) (search needs) (sym (c .before .is-unfit .ensures) ∙ c .if2 .taken))
+    let loop = loop-of (c .before) in
+    let a = start-of loop .args in
+    let fault = sym (c .before .is-unfit .ensures) ∙ c .if2 .taken in
+    sym (unfit-here b (stateOf (a .t2)) (search needs) (5 * a .n) (omega arith) (loop .loop .v) (search needs) fault)
 
 loop-again : tie.Need-loop-again Inv-loop μ-loop
 loop-again c =
-    let t = c .before .before .before .before .loop in
+    let t = loop-of (c .before) .loop in
     (search needs, search needs, search needs, below-more _ (t .v) (t .inv .3) (sym (c .before .is-unfit .ensures) ∙ c .if2 .left))
 
 returns-3 : tie.Need-returns-3 Inv-loop μ-loop
 returns-3 c b e =
-    let a = c .before .before .before .args in
+    let a = start-of (c .before) .args in
     let t = c .before .loop in
     sym (unfit-none b (stateOf (a .t2)) (search needs) (5 * a .n) (omega arith) (t .inv .2) (omega arith) (λ v l. t .inv .3 v (omega arith)))
 

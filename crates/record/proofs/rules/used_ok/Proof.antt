@@ -1,24 +1,20 @@
 -- `record::rules::used_ok` meets its contract: the flags are those of the definition, and bytes 6 and 7 are zero. Assumes nothing.
-use mathlib.Core.Path.{refl}
-use mathlib.Core.Bool.{and-true}
-use Rattle.record.specs.Rules.{used}
+use Rattle.record.specs.Rules.{usedBytes}
 use Rattle.record.specs.Layout.{entryBytes}
+use Rattle.record.proofs.EntryRules.{first-six}
 use borrow.Author.Needs.{needs}
 use Rattle.record.proofs.rules.used_ok.Statement.{statement}
 use Rattle.record.proofs.rules.used_ok.Tie as tie
 
 returns : tie.Need-returns
-unfolding used entryBytes
+unfolding usedBytes entryBytes
 returns c =
-    rw (
-      and-true,
-      and-true,
-      c .before .before .before .before .before .is-kind .ensures,
-      c .before .before .before .before .is-register .ensures,
-      c .before .before .before .is-register2 .ensures,
-      c .before .before .is-register3 .ensures,
-    )
-    refl
+    let third = c .before .before in
+    let second = third .before in
+    let first = second .before in
+    let kind = first .before in
+    rw (kind .is-kind .ensures, first .is-register .ensures, second .is-register2 .ensures, third .is-register3 .ensures)
+    (first-six _ _ _ _ _ _)
 
 pub used-ok-spec : {M : Type 1} → statement M
 used-ok-spec =

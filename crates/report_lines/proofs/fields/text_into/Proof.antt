@@ -1,9 +1,11 @@
--- `report_lines::fields::text_into` meets its contract: the bytes passed stand in their places, and the others are as they were. Assumes nothing.
+-- `report_lines::fields::text_into` meets its contract: the bytes passed stand in their places, and the others are as they were. Assumes
+-- nothing.
+use Prim.Native.Nat.{_-_, _≤_}
 use mathlib.Core.Path.{_≡_, refl}
-use Prim.Native.Nat.{_≤_, _-_}
+use native.Mathlib.Omega.{arith}
 use native.Mathlib.Numerals.{add-one}
 use lib.ListN.{length, length-set}
-use lib.Seq.{paste, paste-zero, paste-suc, take-length}
+use lib.Seq.{paste, paste-suc, paste-zero, take-length}
 use borrow.Author.Needs.{needs}
 use Rattle.report_lines.proofs.fields.text_into.Statement.{statement}
 use Rattle.report_lines.proofs.fields.text_into.Tie as tie
@@ -20,21 +22,6 @@ loop-holds c =
     let a = c .args in
     (search needs, refl, refl, paste-zero (a .out .now) (a .at) (a .text .now))
 
-shared-slice-read-out : tie.Need-shared-slice-read-out Inv-loop μ-loop
-shared-slice-read-out c = search needs
-
-add-out : tie.Need-add-out Inv-loop μ-loop
-add-out c = search needs
-
-slice-write-out : tie.Need-slice-write-out Inv-loop μ-loop
-slice-write-out c = search needs
-
-add-k : tie.Need-add-k Inv-loop μ-loop
-add-k c = search needs
-
-loop-less : tie.Need-loop-less Inv-loop μ-loop
-loop-less c = search needs
-
 loop-again : tie.Need-loop-again Inv-loop μ-loop
 loop-again c =
     let t = c .before .before .loop in
@@ -45,21 +32,15 @@ loop-again c =
       rw (t .inv .3, add-one) (paste-suc (a .out .now) (a .at) (a .text .now) (t .k) 0 (search needs) (search needs)),
     )
 
-add-result : tie.Need-add-result Inv-loop μ-loop
-add-result c = search needs
-
-same-length : tie.Need-same-length Inv-loop μ-loop
-same-length c = search needs
-
 returns : tie.Need-returns Inv-loop μ-loop
 returns c =
     let t = c .before .loop in
     let a = c .before .before .args in
     let e : t .k ≡ length (a .text .now) = search needs in
-    (refl, rw (t .inv .3, e, take-length (a .text .now)) refl)
+    record { next = refl; few = omega arith; output = rw (t .inv .3, e, take-length (a .text .now)) refl }
 
 pub text-into-spec : {M : Type 1} → statement M
 text-into-spec =
     tie.close
-    (tie.spec Inv-loop μ-loop loop-holds shared-slice-read-out add-out slice-write-out add-k loop-less loop-again add-result
-    same-length returns)
+    (tie.spec Inv-loop μ-loop loop-holds (λ c. search needs) (λ c. search needs) (λ c. search needs)
+    (λ c. search needs) (λ c. search needs) loop-again (λ c. search needs) (λ c. search needs) returns)

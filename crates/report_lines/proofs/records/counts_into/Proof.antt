@@ -1,41 +1,83 @@
 -- `report_lines::records::counts_into` meets its contract: four numbers, each behind the one before. Assumes nothing.
-use mathlib.Core.Path.{_≡_}
-use mathlib.Core.List.{[], _∷_}
 use native.Mathlib.Omega.{arith}
-use Rattle.lists.specs.Bytes.{little}
-use Rattle.report_lines.specs.Text.{decimal}
-use Rattle.report_lines.specs.inside.ResultText.{countsText}
-use Rattle.report_lines.proofs.TextsInOrder.{Fields, number-field, last-field, more-fields}
+use Rattle.report_lines.specs.inside.TextSteps.{countsText}
+use Rattle.report_lines.proofs.TextsInOrder.{field-put, fields-put, last-field, more-fields}
 use borrow.Author.Needs.{needs}
 use Rattle.report_lines.proofs.records.counts_into.Statement.{statement}
 use Rattle.report_lines.proofs.records.counts_into.Tie as tie
 
+-- the places that the answers look back to
+abbrev start-of : tie.After-number-into → tie.Start
+start-of c = c .before .before .before .before
+
+abbrev first-of : tie.After-number-into2 → tie.After-number-into
+first-of c = c .before .before .before .before .before
+
+abbrev second-of : tie.After-number-into3 → tie.After-number-into2
+second-of c = c .before .before .before .before .before
+
+abbrev third-of : tie.After-number-into4 → tie.After-number-into3
+third-of c = c .before .before .before .before .before
+
+number-into-requires : tie.Need-number-into-requires
+number-into-requires c κs = omega (arith, c .before .before .before .pre)
+
+number-into-requires-2 : tie.Need-number-into-requires-2
+number-into-requires-2 c κs =
+    let first = c .before .before .before .before in
+    omega (arith, start-of first .pre, first .number-into .ensures .few, first .number-into .kept .1 .1 .1 .0)
+
+number-into-requires-3 : tie.Need-number-into-requires-3
+number-into-requires-3 c κs =
+    let second = c .before .before .before .before in
+    let first = first-of second in
+    omega (
+      arith,
+      start-of first .pre,
+      first .number-into .ensures .few,
+      second .number-into2 .ensures .few,
+      first .number-into .kept .1 .1 .1 .0,
+      second .number-into2 .kept .1 .1 .1 .0,
+    )
+
+number-into-requires-4 : tie.Need-number-into-requires-4
+number-into-requires-4 c κs =
+    let third = c .before .before .before .before in
+    let second = second-of third in
+    let first = first-of second in
+    omega (
+      arith,
+      start-of first .pre,
+      first .number-into .ensures .few,
+      second .number-into2 .ensures .few,
+      third .number-into3 .ensures .few,
+      first .number-into .kept .1 .1 .1 .0,
+      second .number-into2 .kept .1 .1 .1 .0,
+      third .number-into3 .kept .1 .1 .1 .0,
+    )
+
 returns : tie.Need-returns
 unfolding countsText
 returns c =
-    let c3 = c .before .before .before .before .before in
-    let c2 = c3 .before .before .before .before .before in
-    let c1 = c2 .before .before .before .before .before in
-    let a = c1 .before .before .before .before .before .before .args in
-    let room = c1 .before .before .before .before .before .before .pre in
-    let s = a .s .now in
-    let n1 = c1 .before .before .number-into in
-    let n2 = c2 .before .before .number-into2 in
-    let n3 = c3 .before .before .number-into3 in
-    let n4 = c .before .before .number-into4 in
-    let bound : c1 .before .before .before .before .two-at .result ≡ little 2 s 6 = c1 .before .before .before .before .two-at .ensures in
-    let rounds : c2 .before .before .before .before .two-at2 .result ≡ little 2 s 12 = c2 .before .before .before .before .two-at2 .ensures in
-    let pairs : c3 .before .before .before .before .two-at3 .result ≡ little 2 s 14 = c3 .before .before .before .before .two-at3 .ensures in
-    let apart : c .before .before .before .before .two-at4 .result ≡ little 2 s 16 = c .before .before .before .before .two-at4 .ensures in
-    let l : Fields (a .out .now) (a .at) (decimal (little 2 s 6) ∷ decimal (little 2 s 12) ∷ decimal (little 2 s 14) ∷ decimal (little 2 s 16) ∷ []) (n4 .last .1 .1 .1 .0) (n4 .result)
-    = more-fields (omega (arith, room)) (number-field _ _ 32 bound (n1 .ensures .0 .0) (n1 .ensures .1))
-    (more-fields (omega (arith, room, n1 .ensures .0 .1, n1 .kept .1 .1 .1 .0)) (number-field _ _ 32 rounds (n2 .ensures .0 .0) (n2 .ensures .1))
-    (more-fields (omega (arith, room, n1 .ensures .0 .1, n1 .kept .1 .1 .1 .0, n2 .ensures .0 .1, n2 .kept .1 .1 .1 .0)) (number-field _ _ 32 pairs (n3 .ensures .0 .0) (n3 .ensures .1))
-    (last-field (number-field _ _ 10 apart (n4 .ensures .0 .0) (n4 .ensures .1))))) in
-    ((l .next, omega (arith, n1 .ensures .0 .1, n2 .ensures .0 .1, n3 .ensures .0 .1, n4 .ensures .0 .1)), l .text)
+    let fourth = c .before .before in
+    let third = third-of fourth in
+    let second = second-of third in
+    let first = first-of second in
+    let room = start-of first .pre in
+    let n1 = first .number-into .ensures in
+    let n2 = second .number-into2 .ensures in
+    let n3 = third .number-into3 .ensures in
+    let n4 = fourth .number-into4 .ensures in
+    let k1 = first .number-into .kept .1 .1 .1 .0 in
+    let k2 = second .number-into2 .kept .1 .1 .1 .0 in
+    fields-put
+    (more-fields (omega (arith, room)) (field-put 32 n1)
+    (more-fields (omega (arith, room, n1 .few, k1)) (field-put 32 n2)
+    (more-fields (omega (arith, room, n1 .few, k1, n2 .few, k2)) (field-put 32 n3) (last-field (field-put 10 n4)))))
+    (omega (arith, n1 .few, n2 .few, n3 .few, n4 .few))
 
 pub counts-into-spec : {M : Type 1} → statement M
 counts-into-spec =
     tie.close
-    (tie.spec (λ c κs. omega arith) (λ c κs. omega arith) (λ c κs. omega arith) (λ c κs. omega arith) (λ c κs. omega arith) (λ c κs. omega arith) (λ c κs. omega arith) (λ c κs. omega arith)
-    (λ c. search needs) returns)
+    (tie.spec (λ c. search needs) number-into-requires (λ c. search needs) number-into-requires-2 (λ c. search needs)
+    number-into-requires-3 (λ c. search needs) number-into-requires-4 (λ c. search needs) returns)

@@ -1,9 +1,10 @@
 -- `report_lines::records::lines_into` meets its contract. Assumes nothing.
-use mathlib.Core.Path.{_≡_, sym}
 use Prim.Native.Nat.{_*_}
+use mathlib.Core.Path.{_≡_, sym}
 use native.Mathlib.Omega.{arith}
 use lib.ListN.{take}
 use lib.Seq.{length-take-le}
+use Rattle.record.specs.Rules.{at}
 use Rattle.report_lines.specs.Report.{linesFrom}
 use Rattle.report_lines.proofs.ArchiveRecords.{take-smaller}
 use Rattle.report_lines.proofs.TextsInOrder.{put-counts}
@@ -25,11 +26,13 @@ returns : tie.Need-returns
 returns c =
     let m = c .before .before .before .smaller in
     let a = c .before .before .before .before .before .args in
-    let p = c .piece-into in
+    let p = c .piece-into .ensures in
     let e : take (m .result) (a .s .now) ≡ take 65536 (a .s .now) = take-smaller (m .result) 65536 (a .s .now) (m .ensures) in
-    let n = rw e at (p .ensures .0) in
-    let o = rw e at (p .ensures .1) in
+    let n = rw e at (p .long) in
+    let o = rw e at (p .output) in
     (record { long = n; output = o }, put-counts (a .out .now) (linesFrom (128 * a .piece) (take 65536 (a .s .now))) _ _ n o)
 
 pub lines-into-spec : {M : Type 1} → statement M
-lines-into-spec = tie.close (tie.spec (λ c κs. search needs) slice-aggregate-piece-into piece-into-requires returns)
+lines-into-spec =
+    tie.close
+    (tie.spec (λ c κs. search needs) slice-aggregate-piece-into piece-into-requires returns)

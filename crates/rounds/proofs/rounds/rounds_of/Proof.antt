@@ -1,119 +1,155 @@
 -- `rounds::rounds::rounds_of` meets its contract: before round k its rows have its rivals. Assumes nothing.
-use mathlib.Core.Path.{_≡_, refl, sym, ap, _∙_}
-use mathlib.Core.List.{List, _++_}
-use Prim.Native.Nat.{ℕ, _≤_, _<_, _+_, _-_}
+use Prim.Native.Nat.{ℕ, _+_, _-_, _<_, _≤_}
+use mathlib.Core.Path.{_∙_, _≡_, sym}
+use mathlib.Core.List.{List}
 use native.Mathlib.Omega.{arith}
-use lib.ListN.{length, getD, take, drop}
-use Rattle.lists.specs.Sums.{sum, any}
-use Rattle.lists.proofs.Least.{least-most}
-use Rattle.record.proofs.AcceptedRanges.{ranges}
-use Rattle.model.specs.Nodes.{nodes}
-use Rattle.model.specs.Paths.{contending}
-use Rattle.model.specs.Rounds.{windows}
-use Rattle.unpacked.specs.inside.UnpackedBlock.{Unpacked}
-use Rattle.rounds.specs.inside.PairRows.{row, apartEX}
-use Rattle.rounds.proofs.RoundLoop.{BeforeRound, rounds-first, rounds-last, rounds-next, few-pairs, fewer-pairs, times-rest}
+use lib.ListN.{length, take}
+use Rattle.lists.specs.Sums.{sum}
+use Rattle.record.specs.declared.Block.{Block}
+use Rattle.model.specs.Paths.{contending, count}
+use Rattle.model.specs.Rounds.{rival, round}
+use Rattle.unpacked.specs.declared.Shape.{Shape}
+use Rattle.unpacked.specs.inside.UnpackedBlock.{Unpacked, Within}
+use Rattle.unpacked.proofs.BlockColumns.{within}
+use Rattle.pairs.specs.inside.PairRows.{RowTable}
+use Rattle.pairs.specs.inside.RowSteps.{RowsKept, firstApart}
+use Rattle.rounds.specs.inside.BlockTimes.{AfterLast, TimesOf}
+use Rattle.rounds.proofs.RoundLoop.{BeforeRound, apart-most, few-pairs, fewer-pairs, rounds-first, rounds-last, rounds-next}
 use borrow.Author.Needs.{needs}
 use Rattle.rounds.proofs.rounds.rounds_of.Statement.{statement}
 use Rattle.rounds.proofs.rounds.rounds_of.Tie as tie
 
 abbrev Inv-loop : tie.InvT-loop
-Inv-loop b his s1 s2 early list₀ count₀ late₀ n k₀ list count late k =
-    (n ≡ b .n) × (length list ≡ 3600) × (length count ≡ 60) × (length late ≡ 300) × ((i : ℕ) → getD list i 0 < 60)
-    × (drop (nodes b) late ≡ drop (nodes b) late₀) × (k + sum (take n count) ≤ 3601) × BeforeRound b k list count
+Inv-loop h u early list₀ counts₀ late₀ n k₀ list counts late k =
+    (length late ≡ 300) × RowTable list counts × (k + sum (take n counts) ≤ 3601)
+    × ((b : Block) → Unpacked b h u → BeforeRound b k list counts)
 
 abbrev μ-loop : tie.MeasureT-loop
-μ-loop b his s1 s2 early list₀ count₀ late₀ n k₀ list count late k = 3602 - k
+μ-loop h u early list₀ counts₀ late₀ n k₀ list counts late k = 3602 - k
+
+-- the places that the answers look back to
+abbrev start-of : tie.At-loop Inv-loop μ-loop → tie.Start Inv-loop μ-loop
+start-of c = c .before .before
+
+abbrev loop-of : tie.After-round-into Inv-loop μ-loop → tie.At-loop Inv-loop μ-loop
+loop-of c = c .before .before .before .before
+
+abbrev round-of : tie.After-first-apart Inv-loop μ-loop → tie.After-round-into Inv-loop μ-loop
+round-of c = c .before .before .before .before
+
+abbrev scan-of : tie.After-keep-rows Inv-loop μ-loop → tie.After-first-apart Inv-loop μ-loop
+scan-of c = c .before .before .before .before .before
+
+-- what the columns lead to
+inside : (c : tie.Start Inv-loop μ-loop) → Within (c .args .h) (c .args .u .now)
+inside c = within (c .pre .0 .b) (c .args .h) (c .args .u .now) (c .pre .0 .unpacked)
 
 loop-holds : tie.Need-loop-holds Inv-loop μ-loop
 loop-holds c =
-    let x = c .before .before .before .before .before .before .before .before .args in
-    let p = c .before .before .before .before .before .before .before .before .pre in
-    let A = ranges (x .b) (p .0 .0) in
-    let few = few-pairs (x .b .n) (x .count .now) (A .n .1) (p .1 .1 .1 .few) in
-    (refl, p .1 .0 .5, p .1 .0 .6, p .1 .0 .4, p .1 .1 .0 .2, refl, omega (arith, few), rounds-first (x .b) (x .list .now) (x .count .now) (p .1 .1 .1))
+    let x = c .before .args in
+    let p = c .before .pre in
+    let T = p .2 .table in
+    let few = few-pairs (x .h .n) (x .count .now) (inside (c .before) .few) (T .few) in
+    (p .3, T, omega (arith, few), λ b U. rounds-first b (x .list .now) (x .count .now) (p .2 .rows b U))
 
 round-into-requires : tie.Need-round-into-requires Inv-loop μ-loop
 round-into-requires c κs =
-    let v = c .before .before .before .before .loop .inv in
-    let p = c .before .before .before .before .before .before .before .before .before .before .before .before .before .pre in
-    let A = ranges (c .before .before .before .before .before .before .before .before .before .before .before .before .before .args .b) (p .0 .0) in (
-      (omega (arith, c .before .before .before .shape-of .ensures .n, A .n .1), p .1 .0 .0, p .1 .0 .1, p .1 .0 .2, v .3),
-      ((v .1, v .2, v .7 .rows .few, v .4), (p .1 .1 .0 .0, p .1 .1 .0 .1)),
-    )
+    let loop = c .before .before .before in
+    (inside (start-of loop), loop .loop .inv .1, loop .loop .inv .0)
 
 first-apart-requires : tie.Need-first-apart-requires Inv-loop μ-loop
 first-apart-requires c κs =
-    let v = c .before .before .before .before .before .before .before .before .before .before .loop .inv in
-    let p = c .before .before .before .before .before .before .before .before .before .before .before .before .before .before .before .before .before .before .before .pre in
-    let A = ranges (c .before .before .before .before .before .before .before .before .before .before .before .before .before .before .before .before .before .before .before .args .b) (p .0 .0) in
-    ((A .n .1, p .1 .0 .0, p .1 .0 .3, c .before .before .before .before .before .round-into .kept .1 .1 .1 .1 .1 .1 .0 ∙ v .3), (v .1, v .2, v .7 .rows .few, v .4))
+    let loop = loop-of (c .before .before .before) in
+    (inside (start-of loop) .few, loop .loop .inv .1)
 
 keep-rows-requires : tie.Need-keep-rows-requires Inv-loop μ-loop
 keep-rows-requires c κs =
-    let v = c .before .before .before .before .before .before .before .before .before .before .before .before .before .before .before .loop .inv in
-    let p = c .before .before .before .before .before .before .before .before .before .before .before .before .before .before .before .before .before .before .before .before .before .before .before .before .pre in
-    let A = ranges (c .before .before .before .before .before .before .before .before .before .before .before .before .before .before .before .before .before .before .before .before .before .before .before .before .args .b) (p .0 .0) in
-    let most = least-most 0 (c .before .before .before .before .before .before .before .before .before .before .before .before .before .before .before .before .before .before .before .before .before .before .before .before .args .b .n) (λ j. any (apartEX (c .before .before .before .before .before .before .before .before .before .before .before .before .before .before .before .before .before .before .before .before .before .before .before .before .args .his .now) (c .before .before .before .before .before .before .before .before .before .before .before .before .before .before .before .before .before .before .before .before .before .before .before .before .args .early .now) (c .before .before .before .before .before .before .before .before .before .before .round-into .last .1 .1 .1 .1 .1 .1 .0) j) (row (c .before .before .before .before .before .before .before .before .before .before .before .before .before .before .before .loop .list) (c .before .before .before .before .before .before .before .before .before .before .before .before .before .before .before .loop .count) j)) (omega arith) in
-    ((A .n .1, omega (arith, c .before .before .before .before .first-apart .ensures, most), p .1 .0 .0, p .1 .0 .3, c .before .before .before .before .before .before .before .before .before .before .round-into .kept .1 .1 .1 .1 .1 .1 .0 ∙ v .3), (v .1, v .2, v .7 .rows .few, v .4))
+    let scan = c .before .before .before .before in
+    let loop = loop-of (round-of scan) in
+    let x = start-of loop .args in
+    let most = apart-most (x .h .n) (x .u .now) (x .early .now) (round-of scan .round-into .last .1 .1 .1 .1 .0) (loop .loop .list) (loop .loop .count) in
+    (omega (arith, scan .first-apart .ensures, most), inside (start-of loop) .few, loop .loop .inv .1)
+
+-- the same number under another name
+fewer-front : (n m : ℕ) (xs ys : List ℕ) → n ≡ m → sum (take m xs) < sum (take m ys) → sum (take n xs) < sum (take n ys)
+fewer-front n m xs ys e h = rw e h
+
+-- a round and its scan, for a block that may have been unpacked
+module _ (c : tie.After-first-apart Inv-loop μ-loop) (b : Block)
+    (U : Unpacked b (start-of (loop-of (round-of c)) .args .h) (start-of (loop-of (round-of c)) .args .u .now)) where
+  abbrev loop : tie.At-loop Inv-loop μ-loop
+  loop = loop-of (round-of c)
+
+  abbrev h : Shape
+  h = start-of loop .args .h
+
+  abbrev u : List ℕ
+  u = start-of loop .args .u .now
+
+  abbrev early : List ℕ
+  early = start-of loop .args .early .now
+
+  abbrev late : List ℕ
+  late = round-of c .round-into .last .1 .1 .1 .1 .0
+
+  abbrev G : BeforeRound b (loop .loop .k) (loop .loop .list) (loop .loop .count)
+  G = loop .loop .inv .3 b U
+
+  times : TimesOf b (round b (contending b) (G .known)) late
+  times = round-of c .round-into .ensures .times b (contending b) (G .known) U (G .rows) (G .even)
+
+  first : c .first-apart .result ≡ firstApart (b .n) u early late (loop .loop .list) (loop .loop .count)
+  first = rw (← U .shape .n) (c .first-apart .ensures)
+
+  over : c .first-apart .result ≡ h .n → AfterLast b (loop .loop .k) late (loop .loop .list) (loop .loop .count)
+  over e =
+      rounds-last b h u U (loop .loop .k) early late (loop .loop .list) (loop .loop .count) G
+      (start-of loop .pre .1 .times b U) times (c .first-apart .result) first (e ∙ U .shape .n)
+
+  module _ (more : c .first-apart .result ≡ h .n → ⊥) (list′ count′ : List ℕ)
+      (K : RowsKept (c .first-apart .result) (h .n) u early late (loop .loop .list) (loop .loop .count) list′ count′) where
+    next : (H : BeforeRound b (loop .loop .k + 1) list′ count′)
+        × (count (b .n) (rival (contending b) (H .known)) < count (b .n) (rival (contending b) (G .known)))
+    next =
+        rounds-next b h u U (loop .loop .k) early late (loop .loop .list) (loop .loop .count) G
+        (start-of loop .pre .1 .times b U) times (c .first-apart .result) first (λ e. more (e ∙ sym (U .shape .n))) list′ count′ (rw (← U .shape .n) K)
+
+    fewer : sum (take (h .n) count′) < sum (take (h .n) (loop .loop .count))
+    fewer =
+        fewer-front (h .n) (b .n) count′ (loop .loop .count) (U .shape .n)
+        (fewer-pairs b (loop .loop .k) (loop .loop .list) (loop .loop .count) list′ count′ G next (omega (arith, inside (start-of loop) .few, U .shape .n)))
 
 add-k : tie.Need-add-k Inv-loop μ-loop
-add-k c = record { fits = omega (arith, c .before .before .before .before .before .before .before .before .before .before .before .before .before .before .before .before .before .before .before .before .loop .inv .6) }
+add-k c = record { fits = omega (arith, loop-of (round-of (scan-of (c .before .before))) .loop .inv .2) }
 
 loop-less : tie.Need-loop-less Inv-loop μ-loop
-loop-less c = omega (arith, c .before .before .before .before .before .before .before .before .before .before .before .before .before .before .before .before .before .before .before .before .loop .inv .6)
+loop-less c = omega (arith, loop-of (round-of (scan-of (c .before .before))) .loop .inv .2)
 
 loop-again : tie.Need-loop-again Inv-loop μ-loop
 loop-again c =
-    let t = c .before .before .before .before .before .before .before .before .before .before .before .before .before .before .before .before .before .before .before .before .loop in
-    let x = c .before .before .before .before .before .before .before .before .before .before .before .before .before .before .before .before .before .before .before .before .before .before .before .before .before .before .before .before .before .args in
-    let p = c .before .before .before .before .before .before .before .before .before .before .before .before .before .before .before .before .before .before .before .before .before .before .before .before .before .before .before .before .before .pre in
-    let v = t .inv in
-    let A = ranges (x .b) (p .0 .0) in
-    let G = v .7 in
-    let U : Unpacked (x .b) (c .before .before .before .before .before .before .before .before .before .before .before .before .before .before .before .before .before .before .before .shape-of .result) (x .s1 .now) (x .s2 .now) = record { accepted = p .0 .0; shape = c .before .before .before .before .before .before .before .before .before .before .before .before .before .before .before .before .before .before .before .shape-of .ensures; sources = p .0 .1 } in
-    let times = c .before .before .before .before .before .before .before .before .before .before .before .before .before .before .before .round-into .ensures (x .b) (contending (x .b)) (G .known) U (p .0 .2) (G .rows) (G .even) in
-    let first = c .before .before .before .before .before .before .before .before .before .first-apart .ensures in
-    let k = c .before .before .before .before .keep-rows .ensures in
-    let next = rounds-next (x .b) (t .k) (x .his .now) (x .early .now) (t .late) (c .before .before .before .before .before .before .before .before .before .before .before .before .before .before .before .round-into .last .1 .1 .1 .1 .1 .1 .0) (t .list) (t .count) G (p .0 .2) (p .1 .1 .0 .3) times (c .before .before .before .before .before .before .before .before .before .first-apart .result) first (c .before .before .before .before .before .before .before .before .if1 .left) (c .before .before .before .before .keep-rows .last .1 .1 .1 .1 .1 .0) (c .before .before .before .before .keep-rows .last .1 .1 .1 .1 .1 .1 .0) (k .0 .1) (k .1 .0) (k .1 .1) in
-    let long : length (c .before .before .before .before .keep-rows .last .1 .1 .1 .1 .1 .0) ≡ 3600 = c .before .before .before .before .keep-rows .kept .1 .1 .1 .1 .1 .0 ∙ v .1 in
-    let many : length (c .before .before .before .before .keep-rows .last .1 .1 .1 .1 .1 .1 .0) ≡ 60 = c .before .before .before .before .keep-rows .kept .1 .1 .1 .1 .1 .1 .0 ∙ v .2 in
-    let fewer = fewer-pairs (x .b) (t .k) (t .list) (t .count) (c .before .before .before .before .keep-rows .last .1 .1 .1 .1 .1 .0) (c .before .before .before .before .keep-rows .last .1 .1 .1 .1 .1 .1 .0) G next (v .1) (v .2) long many (A .n .1) in (
-      refl,
-      long,
-      many,
-      c .before .before .before .before .before .before .before .before .before .before .before .before .before .before .before .round-into .kept .1 .1 .1 .1 .1 .1 .0 ∙ v .3,
-      k .0 .0,
-      times-rest (x .b) (contending (x .b)) (G .known) (t .late) _ times ∙ v .5,
-      omega (arith, v .6, fewer),
-      next .0,
+    let keep = c .before .before in
+    let scan = scan-of keep in
+    let more = keep .before .before .before .before .if1 .left in
+    let t = loop-of (round-of scan) .loop in
+    let some = start-of (loop-of (round-of scan)) .pre .0 in
+    let K = keep .keep-rows .ensures in (
+      round-of scan .round-into .ensures .long,
+      K .table,
+      omega (arith, t .inv .2, fewer scan (some .b) (some .unpacked) more _ _ K),
+      λ b U. next scan b U more _ _ K .0,
     )
 
 same-length : tie.Need-same-length Inv-loop μ-loop
-same-length c = c .before .before .before .before .before .before .before .before .before .before .before .before .loop .inv .1 ∙ sym (c .before .before .before .before .before .before .before .before .before .before .before .before .before .before .before .before .before .before .before .before .before .pre .1 .0 .5)
-
-same-length-2 : tie.Need-same-length-2 Inv-loop μ-loop
-same-length-2 c = c .before .before .before .before .before .before .before .before .before .before .before .before .loop .inv .2 ∙ sym (c .before .before .before .before .before .before .before .before .before .before .before .before .before .before .before .before .before .before .before .before .before .pre .1 .0 .6)
-
-same-length-3 : tie.Need-same-length-3 Inv-loop μ-loop
-same-length-3 c = c .before .before .before .before .before .before .before .round-into .kept .1 .1 .1 .1 .1 .1 .0 ∙ c .before .before .before .before .before .before .before .before .before .before .before .before .loop .inv .3 ∙ sym (c .before .before .before .before .before .before .before .before .before .before .before .before .before .before .before .before .before .before .before .before .before .pre .1 .0 .4)
+same-length c = let loop = loop-of (round-of (c .before)) in loop .loop .inv .1 .long ∙ sym (start-of loop .pre .2 .table .long)
 
 returns : tie.Need-returns Inv-loop μ-loop
 returns c =
-    let t = c .before .before .before .before .before .before .before .before .before .before .before .before .loop in
-    let x = c .before .before .before .before .before .before .before .before .before .before .before .before .before .before .before .before .before .before .before .before .before .args in
-    let p = c .before .before .before .before .before .before .before .before .before .before .before .before .before .before .before .before .before .before .before .before .before .pre in
-    let v = t .inv in
-    let A = ranges (x .b) (p .0 .0) in
-    let G = v .7 in
-    let U : Unpacked (x .b) (c .before .before .before .before .before .before .before .before .before .before .before .shape-of .result) (x .s1 .now) (x .s2 .now) = record { accepted = p .0 .0; shape = c .before .before .before .before .before .before .before .before .before .before .before .shape-of .ensures; sources = p .0 .1 } in
-    let times = c .before .before .before .before .before .before .before .round-into .ensures (x .b) (contending (x .b)) (G .known) U (p .0 .2) (G .rows) (G .even) in
-    let first = c .before .first-apart .ensures in
-    let over = rounds-last (x .b) (t .k) (x .his .now) (x .early .now) (t .late) _ (t .list) (t .count) G (p .0 .2) (p .1 .1 .0 .3) times _ first (c .if1 .taken) in
-    ((over .rounds, over .times ∙ ap (λ (r : List ℕ). windows (x .b) .late ++ r) (v .5)), (over .rows, over .even))
+    let scan = c .before in
+    let t = loop-of (round-of scan) .loop in
+    record { long = round-of scan .round-into .ensures .long; table = t .inv .1; last = λ b U. over scan b U (c .if1 .taken) }
 
 pub rounds-of-spec : {M : Type 1} → statement M
 rounds-of-spec =
     tie.close
-    (tie.spec Inv-loop μ-loop (λ c. search needs) loop-holds (λ c κs. search needs) round-into-requires
-    first-apart-requires keep-rows-requires add-k loop-less loop-again same-length same-length-2 same-length-3 returns)
+    (tie.spec Inv-loop μ-loop loop-holds round-into-requires first-apart-requires keep-rows-requires add-k loop-less
+    loop-again same-length returns)

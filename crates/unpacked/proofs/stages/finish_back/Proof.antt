@@ -14,11 +14,11 @@ returns c =
 returns-2 : tie.Need-returns-2
 unfolding finishBack
 returns-2 c =
-    let a = c .before .before .args in
+    let a = c .before .args in
     (rw (lt-leb (a .k) (a .i) (search needs)) (search needs), search needs)
 
 pub finish-back-spec : {M : Type 1} → statement M
 finish-back-spec =
     tie.close
     (tie.spec (λ c. search needs) (λ c. search needs) (λ c. search needs) (λ c. search needs) (λ c κs. search needs)
-    (λ c. search needs) returns returns-2)
+    (λ c κs. search needs) (λ c. search needs) returns returns-2)

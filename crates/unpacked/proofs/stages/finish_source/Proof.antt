@@ -7,11 +7,11 @@ use Rattle.unpacked.proofs.stages.finish_source.Tie as tie
 
 returns : tie.Need-returns
 unfolding finishSource
-returns c = (rw (lt-ltb 0 (c .before .before .before .before .args .x) (search needs)) (search needs), search needs)
+returns c = (rw (lt-ltb 0 (c .before .before .before .args .x) (search needs)) (search needs), search needs)
 
 returns-2 : tie.Need-returns-2
 unfolding finishSource
-returns-2 c = (rw (le-ltb 0 (c .before .before .args .x) (search needs)) (search needs), search needs)
+returns-2 c = (rw (le-ltb 0 (c .before .args .x) (search needs)) (search needs), search needs)
 
 pub finish-source-spec : {M : Type 1} → statement M
 finish-source-spec =

@@ -1,7 +1,7 @@
 -- `unpacked::stages::ready_id` meets its contract. Assumes nothing.
 use mathlib.Core.Path.{refl, _∙_}
-use native.Mathlib.Nat.{add-zero}
 use native.Mathlib.Omega.{arith}
+use native.Mathlib.Nat.{add-zero}
 use Rattle.unpacked.specs.inside.ReadyByStage.{readyID}
 use borrow.Author.Needs.{needs}
 use Rattle.unpacked.proofs.stages.ready_id.Statement.{statement}
@@ -10,14 +10,16 @@ use Rattle.unpacked.proofs.stages.ready_id.Tie as tie
 returns : tie.Need-returns
 unfolding readyID
 returns c =
-    let x = c .before .before .before .before .before in (
+    let x = c .before .before in
+    let y = x .before .before .before .before in (
       c .larger3 .ensures
           ∙ rw (
-            c .before .before .larger2 .ensures,
-            c .before .before .before .wide .ensures .0,
-            x .larger .ensures,
-            x .before .finish-back2 .ensures .0,
-            x .before .before .finish-back .ensures .0,
+            x .larger2 .ensures,
+            x .before .before .wide .ensures .0,
+            x .before .small .ensures .0,
+            y .larger .ensures,
+            y .before .finish-back2 .ensures .0,
+            y .before .before .finish-back .ensures .0,
             c .before .start-back .ensures .0,
             add-zero,
           )
@@ -29,5 +31,5 @@ pub ready-id-spec : {M : Type 1} → statement M
 ready-id-spec =
     tie.close
     (tie.spec (λ c κs. search needs) (λ c κs. search needs) (λ c κs. search needs) (λ c. search needs)
-    (λ c. search needs) (λ c. search needs) (λ c κs. search needs) (λ c. search needs) (λ c κs. search needs)
-    (λ c κs. search needs) (λ c κs. search needs) returns)
+    (λ c. search needs) (λ c. search needs) (λ c κs. search needs) (λ c κs. search needs) (λ c. search needs)
+    (λ c κs. search needs) (λ c κs. search needs) (λ c κs. search needs) returns)

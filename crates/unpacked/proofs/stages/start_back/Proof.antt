@@ -7,11 +7,11 @@ use Rattle.unpacked.proofs.stages.start_back.Tie as tie
 
 returns : tie.Need-returns
 unfolding startBack
-returns c = (rw (le-leb 1 (c .before .before .before .before .args .i) (search needs)) (search needs), search needs)
+returns c = (rw (le-leb 1 (c .before .before .before .args .i) (search needs)) (search needs), search needs)
 
 returns-2 : tie.Need-returns-2
 unfolding startBack
-returns-2 c = (rw (lt-leb 1 (c .before .before .args .i) (search needs)) (search needs), search needs)
+returns-2 c = (rw (lt-leb 1 (c .before .args .i) (search needs)) (search needs), search needs)
 
 pub start-back-spec : {M : Type 1} → statement M
 start-back-spec =

@@ -1,0 +1,4 @@
+pub mod NodeTest
+pub mod UnitsHeld
+pub mod UnitsFree
+pub mod CycleByNode

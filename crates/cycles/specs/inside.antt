@@ -1,0 +1,2 @@
+pub mod PlayFacts
+pub mod NodeTurn

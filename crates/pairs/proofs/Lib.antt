@@ -1,0 +1,4 @@
+pub mod LaterLatencies
+pub mod RowScan
+pub mod RowStore
+pub mod ChainTable
