@@ -1,11 +1,13 @@
 // The analysis of a block: its result record, its window table, and what it says beside the windows.
+#![tactic(auto)]
+
 mod operations;
 mod outputs;
 
 pub use operations::{analyse, summary_of, windows};
 
 // What an analysis says of a block beside its windows.
-#[derive(Drop)]
+#[derive(Clone, Copy)]
 pub struct Summary {
     pub n: u8,
     pub origin: u8,

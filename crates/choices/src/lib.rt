@@ -1,4 +1,6 @@
 // The whole play by choice: the EX starts are fixed one by one, and what is off EX follows. No cycle is counted.
+#![tactic(auto)]
+
 mod choosing;
 mod notes;
 mod rows;
@@ -26,7 +28,7 @@ pub const DECODED: usize = 360;
 pub const COMMITTED: usize = 452;
 
 // An instruction, and when its EX starts.
-#[derive(Drop)]
+#[derive(Clone, Copy)]
 pub struct Choice {
     pub at: usize,
     pub start: u32,

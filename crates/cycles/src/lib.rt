@@ -1,4 +1,6 @@
 // One cycle of play: one node in one cycle, and one cycle node by node.
+#![tactic(auto)]
+
 ghost use Rattle.std.specs.Prelude.{◌≡◌, ℕ, ◌+◌, ◌/◌, ◌≤◌, ◌<◌, max, length, eqb};
 ghost use Rattle.lists.specs.Lists.{pick};
 ghost use Rattle.model.specs.Cycles.{most_cycles};
@@ -9,7 +11,7 @@ ghost use Rattle.cycles.specs.inside.PlayFacts.{Lent, Turns, UnitEnds, CyclePlay
 use unpacked::{EX, FIRSTS, ID, IF, SECONDS, Shape, WB, larger, small, time, wide};
 
 // A turn: that of stage g of instruction i in cycle t.
-#[derive(Drop)]
+#[derive(Clone, Copy)]
 pub struct Turn {
     pub t: u32,
     pub i: usize,

@@ -1,5 +1,7 @@
 // The bench's operations for a program in C or Rust, from a record's bytes on: numbers and slices alone. Each hands back a
 // refusal as number × 65536 + place, and 0 where it accepts; at a refusal nothing is written.
+#![tactic(auto)]
+
 ghost use Rattle.std.specs.Prelude.{◌≡◌, ◌<◌};
 ghost use Rattle.record.specs.Refusals.{meaning};
 ghost use Rattle.exports.specs.Doors.{coded, ChecksBytes, RecodesBytes, AnalysesBytes, WindowsBytes, PlaysBytes, PlayLengthBytes};

@@ -1,4 +1,6 @@
 // The reader.
+#![tactic(auto)]
+
 ghost use Rattle.std.specs.Prelude.{◌≡◌, not, ◌<◌, length};
 ghost use Rattle.lists.specs.Lists.{tab, least};
 ghost use Rattle.record.specs.Rules.{broken};

@@ -29,10 +29,7 @@ zero_bytes =
 
 -- entries as the machine has them
 abbrev Known : List Entry → Type 0
-Known es =
-    WT
-    ((laws.the_laws).1.1.1.1.1.1.1.1.0.val
-    (map (λ (e : Entry). (e.kind, (e.lo, (e.hi, (e.writes, (e.reads1, (e.reads2, Prim.tt {0}))))))) es))
+Known es = WT ((laws.the_laws).1.1.1.1.1.1.1.1.0.val es)
 
 -- each of them is six bytes
 pub each_bytes : (es : List Entry) → Known es → (i : ℕ) → ByteEntry (get_or es i no_entry)

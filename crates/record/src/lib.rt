@@ -1,4 +1,6 @@
 // The block record: its value, its rules, its check and its refusals.
+#![tactic(auto)]
+
 mod check;
 mod reasons;
 mod rules;
@@ -24,7 +26,7 @@ pub const ZERO1: usize = 6;
 
 pub const ZERO2: usize = 7;
 
-#[derive(Drop)]
+#[derive(Clone, Copy)]
 pub struct Entry {
     pub kind: u8,
     pub lo: u8,
@@ -34,7 +36,7 @@ pub struct Entry {
     pub reads2: u8,
 }
 
-#[derive(Drop)]
+#[derive(Clone, Copy)]
 pub struct Block {
     pub n: u8,
     pub q: u8,
@@ -48,7 +50,7 @@ pub struct Block {
 }
 
 // Why an input is refused, for every operation of the bench, with the place where it varies.
-#[derive(Drop)]
+#[derive(Clone, Copy)]
 pub enum Reason {
     Length,
     Check,
@@ -61,14 +63,14 @@ pub enum Reason {
     State,
 }
 
-#[derive(Drop)]
+#[derive(Clone, Copy)]
 pub enum Answer {
     Accepted,
     Refused(Reason),
 }
 
 // What reading gives: the answer, and beside it the block.
-#[derive(Drop)]
+#[derive(Clone, Copy)]
 pub struct Reading {
     pub answer: Answer,
     pub block: Block,

@@ -1,5 +1,7 @@
 // Reports on the block records on standard input: a header, then a line for each record. The lines come from `report_lines`, for
 // a piece of 65,536 bytes at a time; here they are read and written.
+#![tactic(auto)]
+
 use libc::{STDERR_FILENO, STDIN_FILENO, STDOUT_FILENO};
 
 fn complain(what: &[u8]) {

@@ -1,4 +1,6 @@
 // The windows of a block: earliest times, and rounds until one finds no new pair apart.
+#![tactic(auto)]
+
 mod rounds;
 mod times;
 
@@ -6,7 +8,7 @@ pub use rounds::refine;
 pub use times::earliest_into;
 
 // What the rounds leave beside the windows.
-#[derive(Drop)]
+#[derive(Clone, Copy)]
 pub struct Counts {
     pub rounds: usize,
     pub pairs: usize,

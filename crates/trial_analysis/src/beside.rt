@@ -8,7 +8,7 @@ use trial_blocks::show::{count, more_if, named, text};
 use trial_blocks::sums::wide;
 
 // How many agree, and how many differ.
-#[derive(Drop)]
+#[derive(Clone, Copy)]
 struct Tally {
     results: usize,
     windows: usize,

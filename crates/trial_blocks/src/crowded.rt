@@ -5,7 +5,7 @@ use crate::made::{block, drawn, larger, next, no_entry, smaller, used};
 use record::{Block, Entry};
 
 // What entries are drawn from: the highest kind, one less than the highest latency, the highest register.
-#[derive(Drop)]
+#[derive(Clone, Copy)]
 struct Tops {
     kind: u64,
     latency: u64,

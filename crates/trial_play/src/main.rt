@@ -1,4 +1,6 @@
 // Prints what the play answers: by table and by steps, on faults, and from states that no play comes to.
+#![tactic(auto)]
+
 mod faults;
 mod plays;
 mod steps;

@@ -62,7 +62,7 @@ fn ends() {
 }
 
 // Sums over tables and lengths and over states, how many plays were stepped through, how many came to the same starts.
-#[derive(Drop)]
+#[derive(Clone, Copy)]
 struct Totals {
     plays: u64,
     states: u64,

@@ -11,7 +11,7 @@ pub fn sum_state(sum: u64, p: PlayState) -> u64 {
 }
 
 // Where a walk ends, after how many cycles, and the sum with all states on the way.
-#[derive(Drop)]
+#[derive(Clone, Copy)]
 pub struct Reached {
     pub state: PlayState,
     pub cycles: usize,
@@ -44,7 +44,7 @@ pub fn walk(p: PlayState, b: Block, lat: &[u8], most: usize, sum: u64) -> Reache
 }
 
 // Where so many cycles lead, whatever has started, and how many of them were accepted.
-#[derive(Drop)]
+#[derive(Clone, Copy)]
 pub struct Stepped {
     pub state: PlayState,
     pub accepted: usize,

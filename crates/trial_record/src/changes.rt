@@ -4,7 +4,7 @@ use trial_blocks::made::block;
 use trial_blocks::show::{count, more, more_if, number_of, place_of};
 
 // How many records were given each number, and how many answers differ from the second opinion.
-#[derive(Drop)]
+#[derive(Clone, Copy)]
 pub struct Tally {
     pub given: [usize; 10],
     pub differ: usize,

@@ -2,7 +2,7 @@
 use record::{Block, Entry};
 use trial_blocks::sums::of_byte;
 
-#[derive(Drop)]
+#[derive(Clone, Copy)]
 pub struct Opinion {
     pub number: usize,
     pub place: usize,

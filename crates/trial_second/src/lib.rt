@@ -1,5 +1,7 @@
 // A second analyser and player of blocks, by another road: a list of edges, relaxation until nothing changes, and
 // events in time order.
+#![tactic(auto)]
+
 mod closure;
 mod edges;
 mod events;
@@ -11,7 +13,7 @@ mod times;
 use record::Block;
 
 // What an analysis counts.
-#[derive(Drop)]
+#[derive(Clone, Copy)]
 pub struct Counts {
     pub bound: u32,
     pub rounds: u32,

@@ -1,5 +1,7 @@
 // What the analysis and a cycle of play both ask of a block again and again: its header's numbers, its columns, its last
 // writers, and the ready time of each stage. The whole play takes the header's numbers from here.
+#![tactic(auto)]
+
 mod columns;
 mod numbers;
 mod stages;
@@ -33,7 +35,7 @@ pub const FIRSTS: usize = 180;
 pub const SECONDS: usize = 240;
 
 // The header's numbers, as indices.
-#[derive(Drop)]
+#[derive(Clone, Copy)]
 pub struct Shape {
     pub n: usize,
     pub q: usize,

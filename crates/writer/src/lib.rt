@@ -1,4 +1,6 @@
 // The tests of a block value, and the writer.
+#![tactic(auto)]
+
 ghost use Rattle.std.specs.Prelude.{◌≡◌, ◌++◌, ◌+◌, ◌≤◌, length, drop};
 ghost use Rattle.lists.specs.Lists.{least, put};
 ghost use Rattle.record.specs.Rules.{broken};

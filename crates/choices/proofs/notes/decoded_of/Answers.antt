@@ -1,0 +1,18 @@
+-- `choices::notes::decoded_of` meets its contract: one more than the largest of three times, or a note. Assumes nothing.
+use mathlib.Core.Path.{refl}
+use Rattle.choices.specs.inside.NoteSteps.{decoded_of}
+use borrow.Author.Rules.{rules}
+use Rattle.choices.proofs.notes.decoded_of.Goals as goal
+
+pub returns : goal.returns
+unfolding decoded_of
+returns c =
+    rw (
+      c.larger-2.ensures,
+      c.larger-s.ensures,
+      c.larger.ensures,
+      c.wide.ensures.0,
+      c.wide-2.ensures.0,
+      c.wide-3.ensures.0,
+    )
+    refl

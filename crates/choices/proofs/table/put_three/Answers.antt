@@ -1,0 +1,18 @@
+-- `choices::table::put_three` meets its contract: three stores in a row, from the node's place on. Assumes nothing.
+use mathlib.Core.List.{[], ◌∷◌}
+use native.Mathlib.Numerals.{add-one, add-two}
+use native.Mathlib.Omega.{arith}
+use lib.ListN.{length-set}
+use lib.Seq.{sets-eq}
+use borrow.Author.Rules.{rules}
+use Rattle.choices.proofs.table.put_three.Goals as goal
+
+pub bounds-out-at-2 : goal.bounds-out-at-2
+bounds-out-at-2 c = simp length-set (search rules)
+
+pub bounds-out-at-3 : goal.bounds-out-at-3
+bounds-out-at-3 c = simp length-set (search rules)
+
+pub returns : goal.returns
+returns c =
+    rw (c.play_place-at.ensures, add-one, add-two) (sets-eq (c.args.ready ∷ c.args.start ∷ c.args.finish ∷ []) c.args.out.now _ (omega (arith, c.requires.2)))

@@ -1,0 +1,53 @@
+-- `cycles::cycle_into` meets its contract: the turns of the nodes passed. Assumes nothing.
+use mathlib.Core.Path.{◌≡◌, refl}
+use Prim.Native.Nat.{◌≤◌, ◌<◌, ◌-◌, ◌*◌, ◌%◌}
+use native.Mathlib.Omega.{arith}
+use Rattle.record.specs.declared.Block.{Block}
+use Rattle.model.specs.Nodes.{chosen}
+use Rattle.unpacked.specs.inside.UnpackedBlock.{Unpacked}
+use Rattle.cycles.specs.inside.PlayFacts.{Lent, Turns, Timed}
+use Rattle.cycles.specs.declared.Turn.{Turn}
+use Rattle.cycles.proofs.CycleByNode.{Passed, passed_none, passed_more, passed_all, turned_lent}
+use borrow.Author.Rules.{rules}
+use Rattle.cycles.proofs.cycle_into.Goals as goal
+
+pub unit_ends-ends-requires : goal.unit_ends-ends-requires
+unit_ends-ends-requires c = let lent = c.requires.1 in (lent.within.few, lent.list, lent.within.kind)
+
+pub loop-v-init : goal.loop-v-init
+loop-v-init c =
+    let e = c.unit_ends-ends in (
+      refl,
+      search rules,
+      c.requires.1,
+      λ b U w. passed_none b (chosen b c.args.lat.now) c.args.t c.args.s.now e.result w (e.ensures.units b c.args.t U.shape.n U.columns w),
+    )
+
+pub node_turn-requires : goal.node_turn-requires
+node_turn-requires c =
+    let turns_at : Turns c.args.h (record { t = c.args.t; i = c.instruction_of.result; g = c.loop-v.v % 5 }) = let p = c.requires in
+    let few : c.instruction_of.result < c.args.h.n = omega (arith, c.instruction_of.ensures, c.loop-v.invariant.0, p.1.within.few) in
+    record { now = p.0; one = few; stage = omega arith } in
+    (turns_at, c.loop-v.invariant.2)
+
+pub loop-v-preserved : goal.loop-v-preserved
+loop-v-preserved c =
+    let o = c.loop-v in
+    let y : Turn = record { t = c.args.t; i = c.instruction_of.result; g = c.loop-v.v % 5 } in
+    let T = c.node_turn.ensures in
+    let is = c.instruction_of.ensures in (
+      refl,
+      omega arith,
+      turned_lent c.args.h c.args.u.now c.args.lat.now y o.s o.ends _ _ o.invariant.2 T,
+      λ b U w.
+          passed_more b c.args.h c.args.u.now U c.args.lat.now y (omega (arith, U.shape.n, is, o.invariant.0)) (omega arith) c.args.s.now o.v
+          (omega (arith, is)) o.s o.ends (o.invariant.3 b U w) _ _ T,
+    )
+
+pub returns : goal.returns
+returns c =
+    let o = c.loop-v in
+    record {
+      played = λ b U w.
+          passed_all b (chosen b c.args.lat.now) c.args.t c.args.s.now o.v o.s o.ends (omega (arith, U.shape.n)) (o.invariant.3 b U w);
+    }

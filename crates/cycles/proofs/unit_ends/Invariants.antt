@@ -1,0 +1,16 @@
+-- `cycles::unit_ends` meets its contract: the ends of the instructions passed. Assumes nothing.
+use mathlib.Core.Path.{◌≡◌, refl, ◌∙◌}
+use Prim.Native.Nat.{ℕ, ◌≤◌, ◌<◌, ◌-◌}
+use native.Mathlib.Omega.{arith}
+use lib.ListN.{length, length-set}
+use Rattle.record.specs.declared.Block.{Block}
+use Rattle.model.specs.Nodes.{chosen}
+use Rattle.unpacked.specs.inside.UnpackedBlock.{Columns}
+use Rattle.cycles.specs.inside.PlayFacts.{Timed}
+use Rattle.cycles.proofs.UnitsFree.{Before, before_none, before_more, before_all}
+use borrow.Author.Rules.{rules}
+use Rattle.cycles.proofs.unit_ends.Given as goal
+
+abbrev pub invariant-loop-i : goal.invariant-loop-i
+invariant-loop-i l = (l.i ≤ l.n) × (length l.ends ≡ 4)
+    × ((b : Block) (t : ℕ) → l.n ≡ b.n → Columns b l.u → Timed t l.s → Before b (chosen b l.lat) t l.s l.i l.ends)

@@ -1,0 +1,22 @@
+-- `pairs::contenders::contenders_of` meets its contract: the front of the row has those of the instructions passed. Assumes nothing.
+use Prim.Native.Nat.{◌*◌, ◌+◌, ◌-◌, ◌<◌, ◌≤◌}
+use mathlib.Core.Path.{◌∙◌, ◌≡◌, refl, sym}
+use mathlib.Core.Bool.{◌&&◌, false, not}
+use mathlib.Core.Logic.{⊎_elim}
+use native.Mathlib.Omega.{arith}
+use lib.Dec.{eqb}
+use lib.ListN.{get_or, length, length-set, take}
+use Rattle.lists.specs.Lists.{numbers_where, pick}
+use Rattle.lists.proofs.Elements.{all_set}
+use Rattle.lists.proofs.NumbersWhere.{numbers_where_end, numbers_where_none}
+use Rattle.unpacked.specs.inside.UnpackedBlock.{kind_of}
+use Rattle.pairs.specs.inside.PairRows.{Inside}
+use Rattle.pairs.specs.inside.RowSteps.{nearby}
+use Rattle.pairs.proofs.RowStore.{numbers_where_store}
+use borrow.Author.Rules.{rules}
+use Rattle.pairs.proofs.contenders.contenders_of.Given as goal
+
+abbrev pub invariant-loop-i : goal.invariant-loop-i
+invariant-loop-i l = (l.first ≡ l.j + 1 - l.w) × (l.first ≤ l.i) × (l.i - l.first ≤ l.j - l.first) × (l.len + l.first ≤ l.i) × (length l.row ≡ 60)
+    × (take l.len l.row ≡ numbers_where l.first l.i (λ k. eqb (kind_of l.u k) (kind_of l.u l.j) && not (get_or l.a (64 * (l.j + 1) + (k + 1)) false)))
+    × Inside l.row

@@ -1,0 +1,16 @@
+-- `pairs::rivals::later_row` meets its contract: each element of those passed has been raised. Assumes nothing.
+use Prim.Native.Nat.{ℕ, ◌-◌, ◌<◌, ◌≤◌, max}
+use mathlib.Core.Path.{◌∙◌, ◌≡◌, ap}
+use mathlib.Core.List.{List}
+use native.Mathlib.Omega.{arith}
+use lib.Dec.{eqb}
+use lib.ListN.{get_or, length, length-set, take}
+use Rattle.lists.specs.Lists.{pick}
+use Rattle.lists.specs.Sums.{any}
+use Rattle.lists.proofs.Fronts.{take_end}
+use Rattle.pairs.proofs.LaterLatencies.{raise_more}
+use borrow.Author.Rules.{rules}
+use Rattle.pairs.proofs.rivals.later_row.Given as goal
+
+abbrev pub invariant-loop-k : goal.invariant-loop-k
+invariant-loop-k l = (l.k ≤ length l.row) × (length l.most ≡ 60) × ((i : ℕ) → get_or l.most i 0 ≡ max (get_or l.initial.most i 0) (pick (any (eqb i) (take l.k l.row)) l.x 0))

@@ -1,0 +1,13 @@
+-- `reader::entries_of` meets its contract: each element passed is the entry of the record. Assumes nothing.
+use mathlib.Core.Path.{◌≡◌, refl}
+use Prim.Native.Nat.{ℕ, ◌≤◌, ◌<◌, ◌-◌}
+use native.Mathlib.Omega.{arith}
+use lib.ListN.{length, get_or, length-set}
+use borrow.Author.Count.{below_none}
+use Rattle.record.specs.Layout.{entry_at, no_entry}
+use Rattle.lists.proofs.TableByIndex.{is_tab, store_more}
+use borrow.Author.Rules.{rules}
+use Rattle.reader.proofs.entries_of.Given as goal
+
+abbrev pub invariant-loop-i : goal.invariant-loop-i
+invariant-loop-i l = (l.i ≤ 60) × (length l.entries ≡ 60) × ((j : ℕ) → j < l.i → get_or l.entries j no_entry ≡ entry_at l.s j)

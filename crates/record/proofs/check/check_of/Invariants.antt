@@ -1,0 +1,10 @@
+-- `record::check::check_of` meets its contract: after k words the two sums are those of the definition. Assumes nothing.
+use mathlib.Core.Path.{◌≡◌, refl}
+use Prim.Native.Nat.{◌≤◌, ◌<◌, ◌-◌}
+use Rattle.record.specs.Check.{sum_a, sum_b, check_of}
+use Rattle.record.proofs.CheckByWord.{sum_a_more, sum_b_more}
+use borrow.Author.Rules.{rules}
+use Rattle.record.proofs.check.check_of.Given as goal
+
+abbrev pub invariant-loop-k : goal.invariant-loop-k
+invariant-loop-k l = (l.k ≤ 254) × (l.a < 65535) × (l.b < 65535) × (l.a ≡ sum_a l.s l.k) × (l.b ≡ sum_b l.s l.k)
