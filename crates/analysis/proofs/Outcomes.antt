@@ -15,12 +15,12 @@ use Rattle.record.specs.declared.Reason.TheVariants.{Output}
 use Rattle.record.proofs.Answers.{answered_one}
 use Rattle.record.proofs.OutputVerdicts.{Outcome, put_refused, put_output, put_done, put_fine}
 use Rattle.model.specs.Rounds.{window_table}
-use Rattle.analysis.specs.Result.{result, analyse_tests, window_tests, analysed, tabled}
+use Rattle.analysis.specs.Result.{result_record, analyse_tests, window_tests, analysed, tabled}
 use Rattle.analysis.specs.Promises.{Analyses, WritesWindows}
 
 -- ---- the analysis
 module _ (b : Block) (o : List ℕ) (w : Whole b) where
-  analysed_so : (a : Answer) (p : List ℕ) → Outcome b (eqb (length o) 512) (result b) o a p → Analyses b o a p
+  analysed_so : (a : Answer) (p : List ℕ) → Outcome b (eqb (length o) 512) (result_record b) o a p → Analyses b o a p
   unfolding analyse_tests analysed
   analysed_so a p x = record { whole = w; answer = x.answer; output = x.output }
 
@@ -30,7 +30,7 @@ module _ (b : Block) (o : List ℕ) (w : Whole b) where
   pub analyse_output : block_verdict b ≡ (0, 0) → (length o ≡ 512 → ⊥) → Analyses b o (Refused Output) o
   analyse_output z h = analysed_so _ o (put_output b _ _ o z (ne_eqb (length o) 512 h))
 
-  pub analyse_done : block_verdict b ≡ (0, 0) → length o ≡ 512 → (p : List ℕ) → p ≡ result b → Analyses b o Accepted p
+  pub analyse_done : block_verdict b ≡ (0, 0) → length o ≡ 512 → (p : List ℕ) → p ≡ result_record b → Analyses b o Accepted p
   analyse_done z h p e = analysed_so _ p (put_done b _ _ o z (eq-eqb (length o) 512 h) p e)
 
 module _ (b : Block) (o : List ℕ) where

@@ -18,7 +18,7 @@ use Rattle.model.specs.Paths.{contending, count, has}
 use Rattle.model.specs.Rounds.{apart_count, bound, pair_count, round_count, windows}
 use Rattle.model.proofs.Limits.{bound_limit}
 use Rattle.model.proofs.RoundsEnd.{rounds_most}
-use Rattle.analysis.specs.Result.{head_of, result, result_body, result_head, summary_of}
+use Rattle.analysis.specs.Result.{head_of, result_record, result_body, result_head, summary_of}
 
 -- ---- how many pairs there are at most
 count_most : (n : ℕ) (p : ℕ → ℕ → Bool) → n ≤ 60 → count n p ≤ 3600
@@ -53,12 +53,12 @@ module _ (b : Block) (whole : Whole b) (accepted : block_verdict b ≡ (0, 0)) w
   bound_few : bound b < 65536
   bound_few = let A = ranges b accepted in omega (arith, bound_limit b A (λ i. (whole.each i).hi), A.n.1)
 
-  pub counts_carried : (little 2 (result b) 6 ≡ bound b) × (little 2 (result b) 12 ≡ round_count b)
-      × (little 2 (result b) 14 ≡ pair_count b) × (little 2 (result b) 16 ≡ apart_count b)
-  unfolding result result_body result_head head_of summary_of bytes
+  pub counts_carried : (little 2 (result_record b) 6 ≡ bound b) × (little 2 (result_record b) 12 ≡ round_count b)
+      × (little 2 (result_record b) 14 ≡ pair_count b) × (little 2 (result_record b) 16 ≡ apart_count b)
+  unfolding result_record result_body result_head head_of summary_of bytes
   counts_carried = (
-    two_bytes (result b) 6 (bound b) bound_few refl refl,
-    two_bytes (result b) 12 (round_count b) rounds_few refl refl,
-    two_bytes (result b) 14 (pair_count b) pairs_few refl refl,
-    two_bytes (result b) 16 (apart_count b) apart_few refl refl,
+    two_bytes (result_record b) 6 (bound b) bound_few refl refl,
+    two_bytes (result_record b) 12 (round_count b) rounds_few refl refl,
+    two_bytes (result_record b) 14 (pair_count b) pairs_few refl refl,
+    two_bytes (result_record b) 16 (apart_count b) apart_few refl refl,
   )

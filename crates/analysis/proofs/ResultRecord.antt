@@ -26,7 +26,7 @@ use Rattle.unpacked.specs.declared.Shape.{Shape}
 use Rattle.unpacked.specs.inside.UnpackedBlock.{Columns, Unpacked}
 use Rattle.pairs.specs.inside.PairRows.{finish_ex}
 use Rattle.rounds.specs.inside.BlockTimes.{TimesOf}
-use Rattle.analysis.specs.Result.{four_of, head_of, result, result_body, result_entries, result_head, result_times, summary_of}
+use Rattle.analysis.specs.Result.{four_of, head_of, result_record, result_body, result_entries, result_head, result_times, summary_of}
 use Rattle.analysis.specs.declared.Summary.{Summary}
 use Rattle.analysis.specs.inside.OutputSteps.{body_from, result_from, times_at}
 
@@ -88,8 +88,8 @@ module _
       refl)
       (λ t. rw t refl))
 
-  pub result_is : result_from (summary_of b) u early late ≡ result b
-  unfolding result_from body_from result result_body result_head summary_of
+  pub result_is : result_from (summary_of b) u early late ≡ result_record b
+  unfolding result_from body_from result_record result_body result_head summary_of
   result_is = rw entries_is refl
 
 -- ---- the output piece by piece

@@ -56,8 +56,8 @@ unfoldable pub result_body : Block → List ℕ
 result_body b = result_head b ++ result_entries b
 
 -- "Same check.": the result record of a block
-unfoldable pub result : Block → List ℕ
-result b = result_body b ++ bytes 4 (check_of (result_body b))
+unfoldable pub result_record : Block → List ℕ
+result_record b = result_body b ++ bytes 4 (check_of (result_body b))
 
 -- the analysis makes tests 4, 5 and 6: "exactly 512 for a record"
 unfoldable pub analyse_tests : Block → List ℕ → List Test
@@ -69,7 +69,7 @@ window_tests b o = block_tests b ++ (output_test (leb (window_numbers b) (length
 
 -- what the output of an analysis holds at the end: the result record, or at a refusal what it held
 unfoldable pub analysed : Block → List ℕ → List ℕ
-analysed b o = pick (accepts (verdict (analyse_tests b o))) (result b) o
+analysed b o = pick (accepts (verdict (analyse_tests b o))) (result_record b) o
 
 -- what the output of the window table holds at the end. "Numbers beyond those stay untouched."
 unfoldable pub tabled : Block → List ℕ → List ℕ

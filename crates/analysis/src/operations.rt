@@ -6,7 +6,7 @@ ghost use Rattle.model.specs.Cycles.{start};
 ghost use Rattle.model.specs.Rounds.{window_numbers, window_table};
 ghost use Rattle.unpacked.specs.inside.UnpackedBlock.{Columns};
 ghost use Rattle.rounds.specs.inside.BlockTimes.{Unpacks};
-ghost use Rattle.analysis.specs.Result.{result, summary_of};
+ghost use Rattle.analysis.specs.Result.{result_record, summary_of};
 ghost use Rattle.analysis.specs.Promises.{Analyses, WritesWindows};
 ghost use Rattle.analysis.specs.inside.OutputSteps.{Analysed, Summarised};
 
@@ -19,7 +19,7 @@ use unpacked::Shape;
 // The earliest and the latest starts, and the counts.
 fn times_into(h: Shape, u: &[u8; 300], early: &mut [u16; 300], late: &mut [u16; 300]) -> Counts
     requires { Unpacks h u.now × (length early.old ≡ 300) × (length late.old ≡ 300) }
-    ensures* { λ r. ⌜ Analysed h u.now early.new late.new r ⌝ }
+    ensures { Analysed h u.now early.new late.new result }
 {
     rounds::earliest_into(h, u, early);
     rounds::refine(h, u, early, late)
@@ -28,7 +28,7 @@ fn times_into(h: Shape, u: &[u8; 300], early: &mut [u16; 300], late: &mut [u16; 
 // The bound: the latest finish of the last node of n instructions.
 fn bound_of(n: usize, late: &[u16; 300]) -> u16
     requires { (1 ≤ n) × (n ≤ 60) × (start late.now (5 * n - 1) < 65535) }
-    ensures* { λ r. ⌜ r ≡ start late.now (5 * n - 1) + 1 ⌝ }
+    ensures { result ≡ start late.now (5 * n - 1) + 1 }
 {
     late[5 * n - 1] + 1
 }
@@ -36,8 +36,8 @@ fn bound_of(n: usize, late: &[u16; 300]) -> u16
 // What an analysis says, from its parts.
 fn summary_from(n: u8, origin: u8, number: u32, bound: u16, counts: Counts) -> Summary
     requires { (counts.rounds ≤ 65535) × (counts.pairs ≤ 65535) × (counts.apart ≤ 65535) }
-    ensures* fact { λ r. ⌜ (r.n ≡ n) × (r.origin ≡ origin) × (r.bound ≡ bound) × (r.number ≡ number) ⌝ }
-    ensures* fact_2 { λ r. ⌜ (r.rounds ≡ counts.rounds) × (r.pairs ≡ counts.pairs) × (r.apart ≡ counts.apart) ⌝ }
+    ensures copied { (result.n ≡ n) × (result.origin ≡ origin) × (result.bound ≡ bound) × (result.number ≡ number) }
+    ensures counted { (result.rounds ≡ counts.rounds) × (result.pairs ≡ counts.pairs) × (result.apart ≡ counts.apart) }
 {
     Summary {
         n,
@@ -53,7 +53,7 @@ fn summary_from(n: u8, origin: u8, number: u32, bound: u16, counts: Counts) -> S
 // The times of an accepted block whose columns are u, and what its analysis says beside its windows.
 fn summary_into(b: Block, u: &[u8; 300], early: &mut [u16; 300], late: &mut [u16; 300]) -> Summary
     requires { (block_verdict b ≡ (0, 0)) × Columns b u.now × (length early.old ≡ 300) × (length late.old ≡ 300) }
-    ensures* { λ r. ⌜ Summarised b early.new late.new r ⌝ }
+    ensures { Summarised b early.new late.new result }
 {
     let h = unpacked::shape_of(b);
     let counts = times_into(h, u, early, late);
@@ -64,7 +64,7 @@ fn summary_into(b: Block, u: &[u8; 300], early: &mut [u16; 300], late: &mut [u16
 // What the analysis of an accepted block says beside its windows.
 pub fn summary_of(b: Block) -> Summary
     requires { block_verdict b ≡ (0, 0) }
-    ensures* { λ r. ⌜ r ≡ summary_of b ⌝ }
+    ensures { result ≡ summary_of b }
 {
     let u = unpacked::columns_of(b);
     let mut early = [0u16; 300];
@@ -74,7 +74,7 @@ pub fn summary_of(b: Block) -> Summary
 
 fn result_into(b: Block, out: &mut [u8])
     requires { (block_verdict b ≡ (0, 0)) × (length out.old ≡ 512) }
-    ensures* { λ _. ⌜ out.new ≡ result b ⌝ }
+    ensures { out.new ≡ result_record b }
 {
     let u = unpacked::columns_of(b);
     let mut early = [0u16; 300];
@@ -85,7 +85,7 @@ fn result_into(b: Block, out: &mut [u8])
 
 fn table_into(b: Block, out: &mut [u16])
     requires { (block_verdict b ≡ (0, 0)) × (window_numbers b ≤ length out.old) }
-    ensures* { λ _. ⌜ out.new ≡ window_table b ++ drop (window_numbers b) out.old ⌝ }
+    ensures { out.new ≡ window_table b ++ drop (window_numbers b) out.old }
 {
     let h = unpacked::shape_of(b);
     let u = unpacked::columns_of(b);
@@ -97,7 +97,7 @@ fn table_into(b: Block, out: &mut [u16])
 
 // Writes the result record of a block to an output of 512 bytes.
 pub fn analyse(b: Block, out: &mut [u8]) -> Answer
-    ensures* { λ r. ⌜ Analyses b out.old r out.new ⌝ }
+    ensures { Analyses b out.old result out.new }
 {
     let answer = writer::block_answer(b);
     match answer {
@@ -114,7 +114,7 @@ pub fn analyse(b: Block, out: &mut [u8]) -> Answer
 
 // Writes the window table of a block to an output of at least 30 n numbers.
 pub fn windows(b: Block, out: &mut [u16]) -> Answer
-    ensures* { λ r. ⌜ WritesWindows b out.old r out.new ⌝ }
+    ensures { WritesWindows b out.old result out.new }
 {
     let answer = writer::block_answer(b);
     match answer {

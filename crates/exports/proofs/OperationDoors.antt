@@ -16,7 +16,7 @@ use Rattle.record.proofs.RoundTrips.{reading_decoded}
 use Rattle.model.specs.Nodes.{chosen}
 use Rattle.model.specs.Cycles.{play_length, play_table}
 use Rattle.model.specs.Rounds.{window_table}
-use Rattle.analysis.specs.Result.{result, analyse_tests, window_tests, analysed, tabled}
+use Rattle.analysis.specs.Result.{result_record, analyse_tests, window_tests, analysed, tabled}
 use Rattle.analysis.specs.Promises.{Analyses, WritesWindows}
 use Rattle.play.specs.Refusals.{list_tests, play_tests, length_tests}
 use Rattle.play.specs.Promises.{played, play_length_given, Plays, GivesPlayLength}
@@ -58,7 +58,7 @@ module _ (s : List ℕ) (r : Reading) (x : Reads s r) (e : r.answer ≡ Accepted
     unfolding analyse_tests analysed
     analyse_door w k f =
         let v : Analyses (decoded s) o a o' = rw block at w in
-        door_done s r x _ e a v.answer (result (decoded s)) o o' k f v.output
+        door_done s r x _ e a v.answer (result_record (decoded s)) o o' k f v.output
 
     pub windows_place : WritesWindows r.block o a o' → (meaning a).1 < 65536
     unfolding window_tests

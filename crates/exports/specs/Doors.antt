@@ -8,7 +8,7 @@ use Rattle.record.specs.Promises.{ByteString}
 use Rattle.model.specs.Nodes.{chosen}
 use Rattle.model.specs.Cycles.{play_length, play_numbers, play_table}
 use Rattle.model.specs.Rounds.{window_numbers, window_table}
-use Rattle.analysis.specs.Result.{result}
+use Rattle.analysis.specs.Result.{result_record}
 use Rattle.play.specs.Refusals.{list_tests}
 
 -- "A refusal is a number with the place of the first fault": both in one number, 0 where nothing is refused
@@ -45,7 +45,7 @@ RecodesBytes s o = Door s (record_room o) (encoded (decoded s)) o
 
 -- "The analysis of a block value writes its result record": that of the block that s says
 abbrev pub AnalysesBytes : List ℕ → List ℕ → ℕ → List ℕ → Type 0
-AnalysesBytes s o = Door s (record_room o) (result (decoded s)) o
+AnalysesBytes s o = Door s (record_room o) (result_record (decoded s)) o
 
 -- "the window table is a second operation on the same value"; "Numbers beyond those stay untouched."
 abbrev pub WindowsBytes : List ℕ → List ℕ → ℕ → List ℕ → Type 0

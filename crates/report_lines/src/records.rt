@@ -3,7 +3,7 @@ ghost use Rattle.std.specs.Prelude.{◌≡◌, ◌∷◌, ◌+◌, ◌*◌, ◌�
 ghost use Rattle.io.specs.Counts.{IsPrefixLen};
 ghost use Rattle.lists.specs.Bytes.{ascii};
 ghost use Rattle.report_lines.specs.Promises.{PutsText};
-ghost use Rattle.report_lines.specs.Report.{header as header·text, letter, summary_line, refusal_line, line, lines_from};
+ghost use Rattle.report_lines.specs.Report.{header as header_text, letter, summary_line, refusal_line, line, lines_from};
 ghost use Rattle.report_lines.specs.inside.TextSteps.{Puts, counts_text};
 
 use crate::fields::{number_into, text_into};
@@ -12,7 +12,7 @@ use record::Answer;
 
 // The header with its line end.
 pub fn header() -> [u8; 40]
-    ensures { result ≡ header·text }
+    ensures { result ≡ header_text }
 {
     *b"block origin n bound rounds pairs apart\n"
 }

@@ -18,7 +18,7 @@ use Rattle.model.specs.Nodes.{EX, nodes, node, chosen}
 use Rattle.model.specs.Cycles.{cycles_each, start, play, three_times, play_place}
 use Rattle.model.specs.Rounds.{windows, window_place}
 use Rattle.model.proofs.TableNumbers.{window_at}
-use Rattle.analysis.specs.Result.{result}
+use Rattle.analysis.specs.Result.{result_record}
 use Rattle.analysis.specs.Promises.{Analyses, WritesWindows}
 use Rattle.analysis.proofs.Outcomes.{analyse_fine, windows_fine}
 use Rattle.play.specs.Promises.{Plays}
@@ -44,7 +44,7 @@ unfolding read_block
 origin_copied s o o' r a y f x e =
     let z : read_verdict s ≡ (0, 0) = accepted_so r.answer f y.answer in
     let d : r.block ≡ decoded s = y.block ∙ (rw z refl) in
-    let i : o' ≡ result (decoded s) = analysed_result r.block o o' a x e ∙ ap result d in
+    let i : o' ≡ result_record (decoded s) = analysed_result r.block o o' a x e ∙ ap result_record d in
     rw i (copied_origin s y.bytes, copied_number s y.bytes)
 
 -- WHY A RUN WITH EVERY LATENCY AT ITS LONGEST FINISHED SOONER THAN THE REAL ONE: so does block E, at 23; with its first

@@ -25,7 +25,7 @@ use Rattle.model.specs.Cycles.{cycles_each, start, finish, three_times, play_pla
 use Rattle.model.specs.Rounds.{earliest, windows}
 use Rattle.model.proofs.TableNumbers.{three, play_at}
 use Rattle.model.proofs.Limits.{earliest_limit, windows_limit}
-use Rattle.analysis.specs.Result.{head_of, result_head, four_of, result_times, result_entries, result_body, result}
+use Rattle.analysis.specs.Result.{head_of, result_head, four_of, result_times, result_entries, result_body, result_record}
 use Rattle.analysis.specs.Promises.{Analyses}
 use Rattle.play.specs.Promises.{Plays}
 use Rattle.play.proofs.Outcomes.{play_fine}
@@ -62,8 +62,8 @@ module _ (b : Block) where
   length_entries = length_joined 8 eight length_eight 60
 
   -- byte k of them
-  entry_byte_lem : (i k : ℕ) → i < 60 → k < 8 → get_or (result b) (28 + (8 * i + k)) 0 ≡ get_or (eight i) k 0
-  unfolding result result_body result_entries
+  entry_byte_lem : (i k : ℕ) → i < 60 → k < 8 → get_or (result_record b) (28 + (8 * i + k)) 0 ≡ get_or (eight i) k 0
+  unfolding result_record result_body result_entries
   entry_byte_lem i k h q =
       get_or-append (result_body b) (bytes 4 (check_of (result_body b))) 0 (28 + (8 * i + k)) (rw (length-append, length_head, length_entries) (omega arith))
       ∙ (rw (← length_head) (get_or-append-add (result_head b) (result_entries b) (8 * i + k) 0))
@@ -87,10 +87,10 @@ module _ (b : Block) where
     four_limit i (suc (suc (suc (suc k)))) h q = absurd (omega arith)
 
     -- THE RESULT RECORD CARRIES THEM
-    pub times_bytes : (i k : ℕ) → i < b.n → k < 4 → little 2 (result b) (28 + 8 * i + 2 * k) ≡ get_or (four_times b i) k 0
+    pub times_bytes : (i k : ℕ) → i < b.n → k < 4 → little 2 (result_record b) (28 + 8 * i + 2 * k) ≡ get_or (four_times b i) k 0
     times_bytes i k h q =
         let few = (ranges b accepted).n.1 in
-        little_ext 2 (result b) (bytes 2 (get_or (four_times b i) k 0)) (28 + 8 * i + 2 * k) 0
+        little_ext 2 (result_record b) (bytes 2 (get_or (four_times b i) k 0)) (28 + 8 * i + 2 * k) 0
         (λ j m.
         let e : 28 + 8 * i + 2 * k + j ≡ 28 + (8 * i + (2 * k + j)) = omega arith in
         rw (e, zero-add j) (entry_byte_lem i (2 * k + j) (omega arith) (omega arith) ∙ number_byte i k j h q m))

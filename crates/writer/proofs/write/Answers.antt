@@ -12,7 +12,7 @@ returns-then-out-ne512 c =
 pub returns-in-Refused : goal.returns-in-Refused
 returns-in-Refused c =
     let t = c.tested-answer.ensures in
-    write_refused _ _ t.whole (search rules) _ (search rules) t.answer
+    write_refused _ _ t.whole c.in-Refused.field-0 _ c.in-Refused.is t.answer
 
 pub returns-else-out-ne512 : goal.returns-else-out-ne512
 returns-else-out-ne512 c =

@@ -1,0 +1,11 @@
+-- `analysis::outputs::put_result` meets its contract. Assumes nothing.
+use mathlib.Core.Path.{◌∙◌}
+use Rattle.analysis.proofs.ResultRecord.{put_made}
+use borrow.Author.Rules.{rules}
+use Rattle.analysis.proofs.outputs.put_result.Goals as goal
+
+pub returns : goal.returns
+returns c =
+    c.seal.ensures
+    ∙ put_made c.args.s c.args.u.now c.args.early.now c.args.late.now c.args.out.now _ _ _ c.requires
+    c.result_head-head.ensures c.put_head.ensures c.put_all_times.ensures
