@@ -1,5 +1,5 @@
 // The bench's operations for a program in C or Rust, from a record's bytes on: numbers and slices alone. Each hands back a
-// refusal as number × 65536 + place, and 0 where it accepts; at a refusal nothing is written.
+// refusal as number × 65536 + place, and 0 where it accepts; at a refusal nothing is written. `exports_c` gives them to C.
 #![tactic(auto)]
 
 ghost use Rattle.std.specs.Prelude.{◌≡◌, ◌<◌};
@@ -24,8 +24,7 @@ fn one_number(a: Answer) -> u32
 }
 
 // Tests a record.
-#[unsafe(no_mangle)]
-pub extern "C" fn bench_check(s: &[u8]) -> u32
+pub fn bench_check(s: &[u8]) -> u32
     ensures { ChecksBytes s.now result }
 {
     let r = reader::read(s);
@@ -34,8 +33,7 @@ pub extern "C" fn bench_check(s: &[u8]) -> u32
 }
 
 // Reads a record and writes the record of what it read, to 512 bytes.
-#[unsafe(no_mangle)]
-pub extern "C" fn bench_recode(s: &[u8], out: &mut [u8]) -> u32
+pub fn bench_recode(s: &[u8], out: &mut [u8]) -> u32
     ensures { RecodesBytes s.now out.old result out.new }
 {
     let r = reader::read(s);
@@ -48,8 +46,7 @@ pub extern "C" fn bench_recode(s: &[u8], out: &mut [u8]) -> u32
 }
 
 // Reads a record and writes the result record of what it read, to 512 bytes.
-#[unsafe(no_mangle)]
-pub extern "C" fn bench_analyse(s: &[u8], out: &mut [u8]) -> u32
+pub fn bench_analyse(s: &[u8], out: &mut [u8]) -> u32
     ensures { AnalysesBytes s.now out.old result out.new }
 {
     let r = reader::read(s);
@@ -62,8 +59,7 @@ pub extern "C" fn bench_analyse(s: &[u8], out: &mut [u8]) -> u32
 }
 
 // Reads a record and writes the window table of what it read, to at least 30 n numbers.
-#[unsafe(no_mangle)]
-pub extern "C" fn bench_windows(s: &[u8], out: &mut [u16]) -> u32
+pub fn bench_windows(s: &[u8], out: &mut [u16]) -> u32
     ensures { WindowsBytes s.now out.old result out.new }
 {
     let r = reader::read(s);
@@ -76,8 +72,7 @@ pub extern "C" fn bench_windows(s: &[u8], out: &mut [u16]) -> u32
 }
 
 // Reads a record and writes the play table of what it read under the latencies of a list, to at least 15 n numbers.
-#[unsafe(no_mangle)]
-pub extern "C" fn bench_play(s: &[u8], lat: &[u8], out: &mut [u16]) -> u32
+pub fn bench_play(s: &[u8], lat: &[u8], out: &mut [u16]) -> u32
     ensures { PlaysBytes s.now lat.now out.old result out.new }
 {
     let r = reader::read(s);
@@ -90,8 +85,7 @@ pub extern "C" fn bench_play(s: &[u8], lat: &[u8], out: &mut [u16]) -> u32
 }
 
 // Reads a record and writes the length of the play of what it read under the latencies of a list, to one number.
-#[unsafe(no_mangle)]
-pub extern "C" fn bench_play_length(s: &[u8], lat: &[u8], out: &mut u16) -> u32
+pub fn bench_play_length(s: &[u8], lat: &[u8], out: &mut u16) -> u32
     ensures { PlayLengthBytes s.now lat.now out.old result out.new }
 {
     let r = reader::read(s);

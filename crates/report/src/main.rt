@@ -2,15 +2,22 @@
 // a piece of 65,536 bytes at a time; here they are read and written.
 #![tactic(auto)]
 
-use libc::{STDERR_FILENO, STDIN_FILENO, STDOUT_FILENO};
+use std::io::Read;
+
+// The process's own three files, by number.
+const INPUT: i32 = 0;
+
+const OUTPUT: i32 = 1;
+
+const ERRORS: i32 = 2;
 
 fn complain(what: &[u8]) {
-    io::write_all(STDERR_FILENO, what);
+    io::write_all(ERRORS, what);
 }
 
 // Writes a text. Says so where that fails, and gives whether it was done.
 fn print(text: &[u8]) -> bool {
-    let done = io::write_all(STDOUT_FILENO, text);
+    let done = io::write_all(OUTPUT, text);
     if !done {
         complain(b"report: the output broke off\n");
     }
@@ -18,11 +25,12 @@ fn print(text: &[u8]) -> bool {
 }
 
 // Says so where the input has broken off: after a piece that came short, a read fails or gives bytes after all.
-fn end() {
+fn end(rt: &HostRuntime) {
     let mut byte = [0u8; 1];
-    let got = libc::read(STDIN_FILENO, &mut byte);
-    if got != 0 {
-        complain(b"report: the input broke off\n");
+    match rt.stdin().read(&mut byte) {
+        Ok(0) => {}
+        Ok(_) => complain(b"report: the input broke off\n"),
+        Err(_) => complain(b"report: the input broke off\n"),
     }
 }
 
@@ -31,28 +39,28 @@ fn room() -> [u8; 16384] {
 }
 
 // Reads a piece and writes its lines. Gives whether another may follow.
-fn piece_on(piece: u32) -> bool {
+fn piece_on(rt: &HostRuntime, piece: u32) -> bool {
     let mut bytes = io::large_buffer();
-    let got = io::read_full(STDIN_FILENO, &mut bytes);
+    let got = io::read_full(INPUT, &mut bytes);
     let mut text = room();
     let n = report_lines::lines_into(&bytes[..got], piece, &mut text);
     if !print(&text[..n]) {
         return false;
     }
     if got < 65536 {
-        end();
+        end(rt);
         return false;
     }
     true
 }
 
-fn main() {
+fn main(rt: HostRuntime) {
     let head = report_lines::header();
     if !print(&head) {
         return;
     }
     for piece in 0..u32::MAX {
-        if !piece_on(piece) {
+        if !piece_on(&rt, piece) {
             return;
         }
     }

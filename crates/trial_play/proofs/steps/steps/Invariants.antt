@@ -1,0 +1,7 @@
+-- `trial_play::steps::steps` is safe and ends. Assumes nothing.
+use Prim.Native.Nat.{◌≤◌, ◌-◌}
+use borrow.Author.Rules.{rules}
+use Rattle.trial_play.proofs.steps.steps.Given as goal
+
+abbrev pub invariant-loop-k : goal.invariant-loop-k
+invariant-loop-k l = l.k ≤ l.cycles
