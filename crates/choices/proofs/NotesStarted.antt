@@ -22,7 +22,7 @@ use Rattle.schedules.specs.inside.Executions.{Work, work, held, Fixes}
 use Rattle.schedules.proofs.Choosing.{front_more, held_more}
 use Rattle.choices.specs.inside.InstructionRows.{Playing}
 use Rattle.choices.specs.inside.NoteSteps.{never, fixed, held_into, started_into}
-use Rattle.choices.specs.inside.PlayNotes.{above, ends, Slots, Starts, Notes}
+use Rattle.choices.specs.inside.PlayNotes.{ends, Slots, Starts, Notes}
 use Rattle.choices.proofs.NoteTimes.{times_same}
 use Rattle.choices.proofs.PlayTimes.{ends_most, ends_ex, write_end}
 use Rattle.choices.proofs.UnitHeld.{held_long, held_other, held_first, held_second, held_third, held_fourth}

@@ -8,7 +8,7 @@ use lib.ListN.{get_or}
 use borrow.Author.Tests.{ne_eqb, le-leb, lt-ltb}
 use Rattle.record.specs.declared.Block.{Block}
 use Rattle.model.specs.Nodes.{IF, ID, EX, WB, CM, node, entry, fetch, source, chosen}
-use Rattle.model.specs.Cycles.{most_cycles, start, finish, ready, play}
+use Rattle.model.specs.Cycles.{most_cycles, start, finish, ready}
 use Rattle.schedules.proofs.PlayExecutions.{play_most, starts_ready}
 use Rattle.unpacked.specs.inside.ReadyByStage.{finish_back, start_back, finish_source, ready_if, ready_id, ready_ex, ready_wb, ready_cm}
 use Rattle.unpacked.specs.inside.UnpackedBlock.{code}

@@ -21,8 +21,8 @@ use borrow.Author.Tests.{lt-ltb, eqb-true, not-false}
 use Rattle.lists.proofs.Bools.{by_test}
 use Rattle.record.specs.declared.Block.{Block}
 use Rattle.record.proofs.AcceptedRanges.{Ranges, ranges}
-use Rattle.model.specs.Nodes.{ID, EX, WB, node, entry, source, chosen}
-use Rattle.model.specs.Cycles.{start, ready, units}
+use Rattle.model.specs.Nodes.{ID, EX, WB, node, entry, source}
+use Rattle.model.specs.Cycles.{start, units}
 use Rattle.schedules.specs.inside.Executions.{Work, work, Served, held, FreeFrom, Fixes}
 use Rattle.schedules.proofs.PlayExecutions.{served}
 use Rattle.schedules.proofs.Choosing.{Behind, late, oldest, least}

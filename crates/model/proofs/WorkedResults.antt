@@ -1,14 +1,12 @@
 -- The blocks worked by hand, computed: each number is the one that is printed. Assumes nothing.
-use Prim.Native.Nat.{ℕ, ◌-◌}
 use mathlib.Core.Path.{◌≡◌, refl}
-use mathlib.Core.List.{List, [], ◌∷◌, ◌++◌}
+use mathlib.Core.List.{[], ◌∷◌}
 use Rattle.lists.specs.Lists.{Every, tab, tab_from, least, least_from, exists, numbers_where, numbers_where_from, in_order, joined}
 use Rattle.lists.specs.Sums.{largest, sum, none, any, all}
 use Rattle.lists.specs.Bytes.{bytes}
 use Rattle.record.specs.Rules.{header_table, lows, highs, outside, register, kind, used_bytes, unused_bytes, wrong_byte, broken}
 use Rattle.record.specs.Layout.{head_bytes, entry_bytes, entries_bytes, body, encoded}
 use Rattle.record.specs.Refusals.{verdict, header_test, entry_test, block_tests, block_verdict}
-use Rattle.record.specs.declared.Block.{Block}
 use Rattle.model.specs.Nodes.{latency, lowest, highest, chosen, finish_edges, last_writer, source, sources, order_edges, into, finish_into, order_into}
 use Rattle.model.specs.Paths.{edges_into, reached, pairs, count, paths, contend, contending}
 use Rattle.model.specs.Cycles.{started, finish, ready, runs, units, free, begins, turns, cycle, first_state, all_started, play_on, play, play_length}

@@ -15,7 +15,6 @@ use Rattle.lists.proofs.Elements.{get_or_in}
 use Rattle.lists.proofs.Fronts.{any_more, kept_more}
 use Rattle.lists.proofs.JoinedPieces.{take_snoc}
 use Rattle.lists.proofs.Members.{any_in}
-use Rattle.record.specs.Rules.{at}
 
 -- ---- the scan
 module _ (p : ℕ → Bool) (list : List ℕ) (from : ℕ) where

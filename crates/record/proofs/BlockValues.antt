@@ -1,7 +1,7 @@
 -- What every block value of the code is: from what the machine knows of its parts, and of a block that was read from the bytes.
 -- Assumes nothing.
 use Prim.Native.Nat.{ℕ, zero, suc, ◌+◌}
-use mathlib.Core.List.{List, [], ◌∷◌, map}
+use mathlib.Core.List.{List, [], ◌∷◌}
 use native.Mathlib.Omega.{arith}
 use lib.ListN.{get_or, length-replicate, get_or-eq_default}
 use lib.Dec.{ltb}

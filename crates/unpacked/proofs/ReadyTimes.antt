@@ -12,7 +12,7 @@ use Rattle.lists.specs.Sums.{largest}
 use Rattle.lists.proofs.Bools.{by_test}
 use Rattle.lists.proofs.Sums.{largest_append}
 use Rattle.record.specs.declared.Block.{Block}
-use Rattle.model.specs.Nodes.{IF, ID, EX, WB, CM, node, instruction, entry, fetch, Edges, finish_edges, last_writer, source, sources, order_edges, into, finish_into, order_into}
+use Rattle.model.specs.Nodes.{IF, ID, EX, WB, CM, node, entry, fetch, Edges, finish_edges, last_writer, source, sources, order_edges, into, finish_into, order_into}
 use Rattle.model.specs.Cycles.{start, finish, ready}
 use Rattle.model.proofs.Latencies.{stage_node, instruction_node}
 use Rattle.unpacked.specs.inside.ReadyByStage.{finish_back, start_back, finish_source, ready_if, ready_id, ready_ex, ready_wb, ready_cm}

@@ -1,13 +1,11 @@
 -- `cycles::cycle_into` meets its contract: the turns of the nodes passed. Assumes nothing.
-use mathlib.Core.Path.{◌≡◌, refl}
-use Prim.Native.Nat.{◌≤◌, ◌<◌, ◌-◌, ◌*◌, ◌%◌}
+use mathlib.Core.Path.{refl}
+use Prim.Native.Nat.{◌<◌, ◌%◌}
 use native.Mathlib.Omega.{arith}
-use Rattle.record.specs.declared.Block.{Block}
 use Rattle.model.specs.Nodes.{chosen}
-use Rattle.unpacked.specs.inside.UnpackedBlock.{Unpacked}
-use Rattle.cycles.specs.inside.PlayFacts.{Lent, Turns, Timed}
+use Rattle.cycles.specs.inside.PlayFacts.{Turns}
 use Rattle.cycles.specs.declared.Turn.{Turn}
-use Rattle.cycles.proofs.CycleByNode.{Passed, passed_none, passed_more, passed_all, turned_lent}
+use Rattle.cycles.proofs.CycleByNode.{passed_none, passed_more, passed_all, turned_lent}
 use borrow.Author.Rules.{rules}
 use Rattle.cycles.proofs.cycle_into.Goals as goal
 

@@ -2,7 +2,6 @@
 use mathlib.Core.Path.{refl}
 use borrow.Author.Tests.{eq-eqb, ne_eqb}
 use Rattle.cycles.specs.inside.NodeTurn.{ended}
-use borrow.Author.Rules.{rules}
 use Rattle.cycles.proofs.hold.Goals as goal
 
 pub returns-then-g-eq-EX : goal.returns-then-g-eq-EX

@@ -5,7 +5,6 @@ use native.Mathlib.Omega.{arith}
 use lib.ListN.{set}
 use Rattle.cycles.specs.inside.NodeTurn.{node_of}
 use Rattle.cycles.proofs.CycleByNode.{turned_started, turned_later, turned_now}
-use borrow.Author.Rules.{rules}
 use Rattle.cycles.proofs.node_turn.Goals as goal
 
 pub offset_bounds-ends-k : goal.offset_bounds-ends-k

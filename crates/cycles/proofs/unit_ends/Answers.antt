@@ -1,13 +1,10 @@
 -- `cycles::unit_ends` meets its contract: the ends of the instructions passed. Assumes nothing.
-use mathlib.Core.Path.{◌≡◌, refl, ◌∙◌}
-use Prim.Native.Nat.{ℕ, ◌≤◌, ◌<◌, ◌-◌}
+use mathlib.Core.Path.{refl, ◌∙◌}
+use Prim.Native.Nat.{◌<◌}
 use native.Mathlib.Omega.{arith}
-use lib.ListN.{length, length-set}
-use Rattle.record.specs.declared.Block.{Block}
+use lib.ListN.{length-set}
 use Rattle.model.specs.Nodes.{chosen}
-use Rattle.unpacked.specs.inside.UnpackedBlock.{Columns}
-use Rattle.cycles.specs.inside.PlayFacts.{Timed}
-use Rattle.cycles.proofs.UnitsFree.{Before, before_none, before_more, before_all}
+use Rattle.cycles.proofs.UnitsFree.{before_none, before_more, before_all}
 use borrow.Author.Rules.{rules}
 use Rattle.cycles.proofs.unit_ends.Goals as goal
 

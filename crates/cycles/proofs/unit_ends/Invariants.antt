@@ -1,14 +1,12 @@
 -- `cycles::unit_ends` meets its contract: the ends of the instructions passed. Assumes nothing.
-use mathlib.Core.Path.{◌≡◌, refl, ◌∙◌}
-use Prim.Native.Nat.{ℕ, ◌≤◌, ◌<◌, ◌-◌}
-use native.Mathlib.Omega.{arith}
-use lib.ListN.{length, length-set}
+use mathlib.Core.Path.{◌≡◌}
+use Prim.Native.Nat.{ℕ, ◌≤◌}
+use lib.ListN.{length}
 use Rattle.record.specs.declared.Block.{Block}
 use Rattle.model.specs.Nodes.{chosen}
 use Rattle.unpacked.specs.inside.UnpackedBlock.{Columns}
 use Rattle.cycles.specs.inside.PlayFacts.{Timed}
-use Rattle.cycles.proofs.UnitsFree.{Before, before_none, before_more, before_all}
-use borrow.Author.Rules.{rules}
+use Rattle.cycles.proofs.UnitsFree.{Before}
 use Rattle.cycles.proofs.unit_ends.Given as goal
 
 abbrev pub invariant-loop-i : goal.invariant-loop-i

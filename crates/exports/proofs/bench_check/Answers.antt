@@ -2,7 +2,6 @@
 use mathlib.Core.Path.{ap, ◌∙◌}
 use Rattle.exports.specs.Doors.{coded}
 use Rattle.exports.proofs.DoorVerdicts.{reading_place}
-use borrow.Author.Rules.{rules}
 use Rattle.exports.proofs.bench_check.Goals as goal
 
 pub one_number-requires : goal.one_number-requires

@@ -5,7 +5,6 @@ use lib.ListN.{get_or}
 use Rattle.record.specs.Layout.{entry_at}
 use Rattle.record.specs.inside.EntryBytes.{wrong_entry}
 use Rattle.record.proofs.EntryRules.{broken_is}
-use borrow.Author.Rules.{rules}
 use Rattle.reader.proofs.bytes_ok.Goals as goal
 
 pub returns : goal.returns

@@ -1,6 +1,5 @@
 -- `reader::decode` meets its contract. Assumes nothing.
 use Rattle.record.specs.Layout.{decoded}
-use borrow.Author.Rules.{rules}
 use Rattle.reader.proofs.decode.Goals as goal
 
 pub returns : goal.returns

@@ -1,10 +1,9 @@
 -- `reader::entries_of` meets its contract: each element passed is the entry of the record. Assumes nothing.
-use mathlib.Core.Path.{◌≡◌, refl}
-use Prim.Native.Nat.{ℕ, ◌≤◌, ◌<◌, ◌-◌}
+use mathlib.Core.Path.{refl}
 use native.Mathlib.Omega.{arith}
-use lib.ListN.{length, get_or, length-set}
+use lib.ListN.{length-set}
 use borrow.Author.Count.{below_none}
-use Rattle.record.specs.Layout.{entry_at, no_entry}
+use Rattle.record.specs.Layout.{no_entry}
 use Rattle.lists.proofs.TableByIndex.{is_tab, store_more}
 use borrow.Author.Rules.{rules}
 use Rattle.reader.proofs.entries_of.Goals as goal

@@ -1,12 +1,8 @@
 -- `reader::entries_of` meets its contract: each element passed is the entry of the record. Assumes nothing.
-use mathlib.Core.Path.{◌≡◌, refl}
-use Prim.Native.Nat.{ℕ, ◌≤◌, ◌<◌, ◌-◌}
-use native.Mathlib.Omega.{arith}
-use lib.ListN.{length, get_or, length-set}
-use borrow.Author.Count.{below_none}
+use mathlib.Core.Path.{◌≡◌}
+use Prim.Native.Nat.{ℕ, ◌≤◌, ◌<◌}
+use lib.ListN.{length, get_or}
 use Rattle.record.specs.Layout.{entry_at, no_entry}
-use Rattle.lists.proofs.TableByIndex.{is_tab, store_more}
-use borrow.Author.Rules.{rules}
 use Rattle.reader.proofs.entries_of.Given as goal
 
 abbrev pub invariant-loop-i : goal.invariant-loop-i

@@ -2,7 +2,6 @@
 use mathlib.Core.Path.{refl}
 use native.Mathlib.Nat.{add-zero}
 use Rattle.record.specs.Layout.{entry_at}
-use borrow.Author.Rules.{rules}
 use Rattle.reader.proofs.entry_at.Goals as goal
 
 pub returns : goal.returns

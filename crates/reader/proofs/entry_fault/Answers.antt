@@ -1,10 +1,8 @@
 -- `reader::entry_fault` meets its contract: no entry passed breaks its rule. Assumes nothing.
-use mathlib.Core.Path.{◌≡◌, sym, ◌∙◌}
-use mathlib.Core.Bool.{false}
-use Prim.Native.Nat.{ℕ, ◌≤◌, ◌<◌, ◌-◌}
+use mathlib.Core.Path.{sym, ◌∙◌}
+use Prim.Native.Nat.{◌-◌}
 use native.Mathlib.Omega.{arith}
 use borrow.Author.Count.{below_none, below_more}
-use Rattle.record.specs.Rules.{broken}
 use Rattle.lists.proofs.Least.{least_here, least_none}
 use borrow.Author.Rules.{rules}
 use Rattle.reader.proofs.entry_fault.Goals as goal

@@ -1,6 +1,5 @@
 -- `reader::no_block` meets its contract. Assumes nothing.
 use Rattle.record.specs.Layout.{no_block}
-use borrow.Author.Rules.{rules}
 use Rattle.reader.proofs.no_block.Goals as goal
 
 pub returns : goal.returns

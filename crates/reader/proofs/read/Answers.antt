@@ -1,7 +1,6 @@
 -- `reader::read` meets its contract: each `return` is the first test that failed. Assumes nothing.
 use mathlib.Core.Path.{◌≡◌, refl}
-use mathlib.Core.List.{List}
-use Prim.Native.Nat.{ℕ, ◌≤◌}
+use Prim.Native.Nat.{◌≤◌}
 use lib.ListN.{length}
 use Rattle.lists.specs.Bytes.{little}
 use Rattle.record.specs.Check.{check_of}

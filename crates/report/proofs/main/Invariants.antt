@@ -1,6 +1,5 @@
 -- `report::main` is safe and ends. Assumes nothing.
-use Prim.Native.Nat.{◌≤◌, ◌-◌}
-use borrow.Author.Rules.{rules}
+use Prim.Native.Nat.{◌≤◌}
 use Rattle.report.proofs.main.Given as goal
 
 abbrev pub invariant-loop-piece : goal.invariant-loop-piece

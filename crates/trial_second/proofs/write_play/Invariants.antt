@@ -1,6 +1,5 @@
 -- `trial_second::write_play` is safe and ends. Assumes nothing.
-use Prim.Native.Nat.{◌≤◌, ◌-◌}
-use borrow.Author.Rules.{rules}
+use Prim.Native.Nat.{◌≤◌}
 use Rattle.trial_second.proofs.write_play.Given as goal
 
 abbrev pub invariant-loop-k : goal.invariant-loop-k

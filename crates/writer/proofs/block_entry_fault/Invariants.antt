@@ -1,14 +1,9 @@
 -- `writer::block_entry_fault` meets its contract: no entry passed breaks its rule. Assumes nothing.
-use mathlib.Core.Path.{◌≡◌, sym, ◌∙◌}
+use mathlib.Core.Path.{◌≡◌}
 use mathlib.Core.Bool.{false}
-use Prim.Native.Nat.{ℕ, ◌≤◌, ◌<◌, ◌-◌}
-use native.Mathlib.Omega.{arith}
-use borrow.Author.Count.{below_none, below_more}
+use Prim.Native.Nat.{ℕ, ◌≤◌, ◌<◌}
 use Rattle.record.specs.Rules.{broken}
 use Rattle.record.specs.Layout.{encoded}
-use Rattle.lists.proofs.Least.{least_here, least_none}
-use Rattle.record.proofs.RecordBytes.{broken_value}
-use borrow.Author.Rules.{rules}
 use Rattle.writer.proofs.block_entry_fault.Given as goal
 
 abbrev pub invariant-loop-i : goal.invariant-loop-i

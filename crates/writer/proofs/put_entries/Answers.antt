@@ -1,8 +1,6 @@
 -- `writer::put_entries` meets its contract: the entries passed stand behind the header, and the rest is as it was. Assumes nothing.
 use mathlib.Core.Path.{◌≡◌, ◌∙◌}
-use Prim.Native.Nat.{◌≤◌, ◌-◌}
-use lib.ListN.{length}
-use Rattle.record.proofs.OutputVerdicts.{entries_in, entries_none, entries_more, entries_all}
+use Rattle.record.proofs.OutputVerdicts.{entries_none, entries_more, entries_all}
 use borrow.Author.Rules.{rules}
 use Rattle.writer.proofs.put_entries.Goals as goal
 

@@ -1,9 +1,8 @@
 -- `writer::put_entries` meets its contract: the entries passed stand behind the header, and the rest is as it was. Assumes nothing.
-use mathlib.Core.Path.{◌≡◌, ◌∙◌}
-use Prim.Native.Nat.{◌≤◌, ◌-◌}
+use mathlib.Core.Path.{◌≡◌}
+use Prim.Native.Nat.{◌≤◌}
 use lib.ListN.{length}
-use Rattle.record.proofs.OutputVerdicts.{entries_in, entries_none, entries_more, entries_all}
-use borrow.Author.Rules.{rules}
+use Rattle.record.proofs.OutputVerdicts.{entries_in}
 use Rattle.writer.proofs.put_entries.Given as goal
 
 abbrev pub invariant-loop-i : goal.invariant-loop-i

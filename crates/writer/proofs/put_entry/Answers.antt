@@ -1,6 +1,5 @@
 -- `writer::put_entry` meets its contract: eight stores in a row. Assumes nothing.
 use native.Mathlib.Numerals.{add-one, add-two, add-three, add-four, add_five, add_six, add_seven}
-use lib.ListN.{length-set}
 use lib.Seq.{sets-eq}
 use Rattle.record.specs.Layout.{entry_bytes}
 use borrow.Author.Rules.{rules}

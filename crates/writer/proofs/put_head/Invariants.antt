@@ -1,11 +1,8 @@
 -- `writer::put_head` meets its contract: the bytes passed are the header's, and the others are as they were. Assumes nothing.
-use mathlib.Core.Path.{◌≡◌, refl}
+use mathlib.Core.Path.{◌≡◌}
 use mathlib.Core.List.{◌++◌}
-use Prim.Native.Nat.{◌≤◌, ◌-◌}
-use lib.ListN.{length, take, drop, length-set}
-use lib.Seq.{take_all}
-use Rattle.lists.proofs.JoinedPieces.{copy_more}
-use borrow.Author.Rules.{rules}
+use Prim.Native.Nat.{◌≤◌}
+use lib.ListN.{length, take, drop}
 use Rattle.writer.proofs.put_head.Given as goal
 
 abbrev pub invariant-loop-k : goal.invariant-loop-k

@@ -4,7 +4,6 @@ use Rattle.unpacked.proofs.BlockColumns.{few}
 use Rattle.analysis.specs.declared.Summary.{Summary}
 use Rattle.analysis.specs.inside.OutputSteps.{result_from}
 use Rattle.analysis.proofs.ResultRecord.{result_is}
-use borrow.Author.Rules.{rules}
 use Rattle.analysis.proofs.operations.result_into.Goals as goal
 
 pub columns_of-u-requires : goal.columns_of-u-requires

@@ -1,17 +1,9 @@
 -- `analysis::operations::summary_into` meets its contract. Assumes nothing.
-use Prim.Native.Nat.{ℕ}
 use mathlib.Core.Path.{◌∙◌}
-use mathlib.Core.List.{List}
 use native.Mathlib.Omega.{arith}
-use Rattle.record.specs.declared.Block.{Block}
 use Rattle.record.proofs.AcceptedRanges.{ranges}
-use Rattle.model.specs.Rounds.{earliest, windows}
-use Rattle.model.specs.Worked.{summary}
-use Rattle.unpacked.specs.declared.Shape.{Shape}
 use Rattle.unpacked.specs.inside.UnpackedBlock.{Unpacked}
-use Rattle.rounds.specs.inside.BlockTimes.{TimesOf}
 use Rattle.analysis.proofs.ResultRecord.{bound_small, summary_is}
-use borrow.Author.Rules.{rules}
 use Rattle.analysis.proofs.operations.summary_into.Goals as goal
 
 pub times_into-counts-requires : goal.times_into-counts-requires

@@ -1,7 +1,6 @@
 -- `analysis::operations::summary_of` meets its contract. Assumes nothing.
 use mathlib.Core.Path.{refl}
 use Rattle.unpacked.proofs.BlockColumns.{few}
-use borrow.Author.Rules.{rules}
 use Rattle.analysis.proofs.operations.summary_of.Goals as goal
 
 pub columns_of-u-requires : goal.columns_of-u-requires

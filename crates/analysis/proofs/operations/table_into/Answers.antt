@@ -4,7 +4,6 @@ use native.Mathlib.Omega.{arith}
 use Rattle.unpacked.specs.inside.UnpackedBlock.{Unpacked}
 use Rattle.unpacked.proofs.BlockColumns.{few, within}
 use Rattle.analysis.proofs.WindowTable.{table_is}
-use borrow.Author.Rules.{rules}
 use Rattle.analysis.proofs.operations.table_into.Goals as goal
 
 pub columns_of-u-requires : goal.columns_of-u-requires

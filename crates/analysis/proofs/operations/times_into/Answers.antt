@@ -1,6 +1,5 @@
 -- `analysis::operations::times_into` meets its contract. Assumes nothing.
 use Rattle.unpacked.proofs.BlockColumns.{within}
-use borrow.Author.Rules.{rules}
 use Rattle.analysis.proofs.operations.times_into.Goals as goal
 
 pub earliest_into-requires : goal.earliest_into-requires

@@ -1,9 +1,7 @@
 -- `analysis::outputs::put_all_times` meets its contract: the entries passed stand behind the header, and the rest is as it was. Assumes
 -- nothing.
-use Prim.Native.Nat.{◌-◌, ◌≤◌}
 use mathlib.Core.Path.{◌∙◌, ◌≡◌, refl}
-use lib.ListN.{length}
-use Rattle.lists.proofs.JoinedPieces.{pieces_all, pieces_more, pieces_none, pieces_in}
+use Rattle.lists.proofs.JoinedPieces.{pieces_all, pieces_more, pieces_none}
 use Rattle.analysis.specs.inside.OutputSteps.{times_at}
 use Rattle.analysis.proofs.ResultRecord.{length_times}
 use borrow.Author.Rules.{rules}

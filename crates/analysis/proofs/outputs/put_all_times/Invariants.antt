@@ -1,11 +1,9 @@
 -- `analysis::outputs::put_all_times` meets its contract: the entries passed stand behind the header, and the rest is as it was. Assumes
-use Prim.Native.Nat.{◌-◌, ◌≤◌}
-use mathlib.Core.Path.{◌∙◌, ◌≡◌, refl}
+use Prim.Native.Nat.{◌≤◌}
+use mathlib.Core.Path.{◌≡◌}
 use lib.ListN.{length}
-use Rattle.lists.proofs.JoinedPieces.{pieces_all, pieces_more, pieces_none, pieces_in}
+use Rattle.lists.proofs.JoinedPieces.{pieces_in}
 use Rattle.analysis.specs.inside.OutputSteps.{times_at}
-use Rattle.analysis.proofs.ResultRecord.{length_times}
-use borrow.Author.Rules.{rules}
 use Rattle.analysis.proofs.outputs.put_all_times.Given as goal
 
 abbrev pub invariant-loop-i : goal.invariant-loop-i

@@ -1,6 +1,5 @@
 -- `analysis::outputs::put_four` meets its contract: eight stores in a row. Assumes nothing.
 use native.Mathlib.Numerals.{add-one, add-two, add-three, add-four, add_five, add_six, add_seven}
-use lib.ListN.{length-set}
 use lib.Seq.{sets-eq}
 use Rattle.lists.specs.Bytes.{bytes}
 use Rattle.analysis.specs.Result.{four_of}

@@ -1,7 +1,6 @@
 -- `analysis::outputs::put_result` meets its contract. Assumes nothing.
 use mathlib.Core.Path.{◌∙◌}
 use Rattle.analysis.proofs.ResultRecord.{put_made}
-use borrow.Author.Rules.{rules}
 use Rattle.analysis.proofs.outputs.put_result.Goals as goal
 
 pub returns : goal.returns

@@ -1,9 +1,8 @@
 -- `analysis::outputs::put_table` meets its contract: the nodes passed have their six numbers, and the rest is as it was. Assumes nothing.
-use Prim.Native.Nat.{◌*◌, ◌-◌, ◌/◌, ◌<◌, ◌≤◌}
+use Prim.Native.Nat.{◌*◌, ◌/◌, ◌<◌}
 use mathlib.Core.Path.{◌∙◌, ◌≡◌, refl}
 use native.Mathlib.Omega.{arith}
-use lib.ListN.{length}
-use Rattle.analysis.proofs.WindowTable.{table_all, table_more, table_none, table_in}
+use Rattle.analysis.proofs.WindowTable.{table_all, table_more, table_none}
 use borrow.Author.Rules.{rules}
 use Rattle.analysis.proofs.outputs.put_table.Goals as goal
 
@@ -26,8 +25,7 @@ put_node-requires c =
 
 pub loop-v-preserved : goal.loop-v-preserved
 loop-v-preserved c =
-    let t = c.loop-v in
-    (
+    let t = c.loop-v in (
       search rules,
       search rules,
       c.put_node.ensures

@@ -1,10 +1,8 @@
 -- `analysis::outputs::put_table` meets its contract: the nodes passed have their six numbers, and the rest is as it was. Assumes nothing.
-use Prim.Native.Nat.{◌*◌, ◌-◌, ◌/◌, ◌<◌, ◌≤◌}
-use mathlib.Core.Path.{◌∙◌, ◌≡◌, refl}
-use native.Mathlib.Omega.{arith}
+use Prim.Native.Nat.{◌≤◌}
+use mathlib.Core.Path.{◌≡◌}
 use lib.ListN.{length}
-use Rattle.analysis.proofs.WindowTable.{table_all, table_more, table_none, table_in}
-use borrow.Author.Rules.{rules}
+use Rattle.analysis.proofs.WindowTable.{table_in}
 use Rattle.analysis.proofs.outputs.put_table.Given as goal
 
 abbrev pub invariant-loop-v : goal.invariant-loop-v

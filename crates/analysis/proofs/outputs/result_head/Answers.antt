@@ -6,7 +6,6 @@ use lib.ListN.{replicate}
 use Rattle.lists.specs.Bytes.{ascii, bytes}
 use Rattle.analysis.specs.Result.{head_of}
 use Rattle.analysis.specs.declared.Summary.{Summary}
-use borrow.Author.Rules.{rules}
 use Rattle.analysis.proofs.outputs.result_head.Goals as goal
 
 -- the header from its bytes

@@ -1,7 +1,6 @@
 -- `choices::choosing::end_of` meets its contract: the least of the numbers of its kind. Assumes nothing.
 use mathlib.Core.Path.{refl}
 use Rattle.choices.specs.inside.NoteSteps.{end_of}
-use borrow.Author.Rules.{rules}
 use Rattle.choices.proofs.choosing.end_of.Goals as goal
 
 pub returns : goal.returns

@@ -4,7 +4,6 @@ use mathlib.Core.List.{List}
 use Prim.Native.Nat.{ℕ, ◌+◌, ◌*◌, ◌%◌, min, max}
 use lib.ListN.{get_or, set}
 use Rattle.choices.specs.inside.NoteSteps.{held_into}
-use borrow.Author.Rules.{rules}
 use Rattle.choices.proofs.choosing.hold.Goals as goal
 
 -- four stores of what the code works out

@@ -3,7 +3,6 @@ use Prim.Native.Nat.{ℕ, max}
 use mathlib.Core.Path.{◌≡◌, ◌∙◌}
 use native.Mathlib.Omega.{arith}
 use Rattle.choices.specs.inside.NoteSteps.{ready_of, key_of}
-use borrow.Author.Rules.{rules}
 use Rattle.choices.proofs.choosing.key_of.Goals as goal
 
 two-and-two : (w e s : ℕ) → max (max w e) s ≡ max (max w s) e

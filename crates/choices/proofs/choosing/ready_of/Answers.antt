@@ -2,7 +2,6 @@
 use mathlib.Core.Path.{refl}
 use native.Mathlib.Omega.{arith}
 use Rattle.choices.specs.inside.NoteSteps.{ready_of}
-use borrow.Author.Rules.{rules}
 use Rattle.choices.proofs.choosing.ready_of.Goals as goal
 
 pub returns : goal.returns

@@ -1,11 +1,10 @@
 -- `choices::choosing::scan` meets its contract: the first of those that can start first, of the instructions looked at; and none
 -- further on can start before it is decoded. Assumes nothing.
-use Prim.Native.Nat.{◌+◌, ◌≤◌, ◌<◌, ◌-◌}
+use Prim.Native.Nat.{◌+◌, ◌≤◌}
 use mathlib.Core.Path.{◌≡◌}
 use native.Mathlib.Omega.{arith}
 use lib.ListN.{get_or}
-use Rattle.choices.proofs.Scanning.{Best, best_one, best_more, best_all}
-use borrow.Author.Rules.{rules}
+use Rattle.choices.proofs.Scanning.{best_one, best_more, best_all}
 use Rattle.choices.proofs.choosing.scan.Goals as goal
 
 pub loop-j-init : goal.loop-j-init

@@ -1,10 +1,6 @@
 -- `choices::choosing::scan` meets its contract: the first of those that can start first, of the instructions looked at; and none
-use Prim.Native.Nat.{◌+◌, ◌≤◌, ◌<◌, ◌-◌}
-use mathlib.Core.Path.{◌≡◌}
-use native.Mathlib.Omega.{arith}
-use lib.ListN.{get_or}
-use Rattle.choices.proofs.Scanning.{Best, best_one, best_more, best_all}
-use borrow.Author.Rules.{rules}
+use Prim.Native.Nat.{◌≤◌, ◌<◌, ◌-◌}
+use Rattle.choices.proofs.Scanning.{Best}
 use Rattle.choices.proofs.choosing.scan.Given as goal
 
 abbrev pub invariant-loop-j : goal.invariant-loop-j

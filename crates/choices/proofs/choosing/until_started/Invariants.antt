@@ -1,18 +1,10 @@
 -- `choices::choosing::until_started` meets its contract: the notes hold in each turn, and fewer instructions are without a start. Assumes nothing.
-use Prim.Native.Nat.{ℕ, ◌+◌, ◌≤◌, ◌<◌, min}
-use mathlib.Core.Path.{◌≡◌, ap}
-use mathlib.Core.Bool.{false, not}
+use Prim.Native.Nat.{ℕ, ◌+◌, ◌≤◌, min}
 use mathlib.Core.List.{List}
-use native.Mathlib.Omega.{arith}
-use borrow.Author.Tests.{eq-eqb, ne_eqb}
 use Rattle.record.specs.declared.Block.{Block}
-use Rattle.record.proofs.AcceptedRanges.{ranges}
-use Rattle.choices.specs.inside.InstructionRows.{Leads, Playing}
-use Rattle.choices.specs.inside.NoteSteps.{never, fixed, started_into}
+use Rattle.choices.specs.inside.InstructionRows.{Playing}
 use Rattle.choices.specs.inside.PlayNotes.{Notes}
-use Rattle.choices.proofs.StartChosen.{leads}
-use Rattle.choices.proofs.OneStart.{left, next_notes, next_less}
-use borrow.Author.Rules.{rules}
+use Rattle.choices.proofs.OneStart.{left}
 use Rattle.choices.proofs.choosing.until_started.Given as goal
 
 abbrev pub invariant-loop-x : goal.invariant-loop-x

@@ -1,7 +1,6 @@
 -- `choices::notes::commit_one` meets its contract: one store, of a time worked out before it. Assumes nothing.
 use mathlib.Core.Path.{refl}
 use Rattle.choices.specs.inside.NoteSteps.{committed_of, committed_into}
-use borrow.Author.Rules.{rules}
 use Rattle.choices.proofs.notes.commit_one.Goals as goal
 
 pub returns : goal.returns

@@ -1,7 +1,6 @@
 -- `choices::notes::decode_one` meets its contract: four stores, of times worked out before them. Assumes nothing.
 use mathlib.Core.Path.{refl}
 use Rattle.choices.specs.inside.NoteSteps.{decoded_into}
-use borrow.Author.Rules.{rules}
 use Rattle.choices.proofs.notes.decode_one.Goals as goal
 
 pub returns : goal.returns

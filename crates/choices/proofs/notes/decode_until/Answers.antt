@@ -1,13 +1,7 @@
 -- `choices::notes::decode_until` meets its contract: the instructions passed are noted. Assumes nothing.
-use Prim.Native.Nat.{ℕ, ◌+◌, ◌≤◌, ◌-◌, min}
 use mathlib.Core.Path.{◌≡◌, refl}
-use mathlib.Core.List.{List}
 use native.Mathlib.Omega.{arith}
-use Rattle.record.specs.declared.Block.{Block}
 use Rattle.model.specs.Nodes.{fetch}
-use Rattle.unpacked.specs.inside.UnpackedBlock.{Shapes}
-use Rattle.choices.specs.inside.InstructionRows.{Playing}
-use Rattle.choices.specs.inside.PlayNotes.{Notes}
 use Rattle.choices.proofs.NotesDecoded.{notes_decoded}
 use borrow.Author.Rules.{rules}
 use Rattle.choices.proofs.notes.decode_until.Goals as goal
@@ -17,8 +11,7 @@ loop-i-init c = (omega arith, λ k. k, λ b l rows c P H e N. N)
 
 pub loop-i-preserved : goal.loop-i-preserved
 loop-i-preserved c =
-    let t = c.loop-i in
-    (
+    let t = c.loop-i in (
       search rules,
       λ k. search rules,
       λ b l rows d P H e N.

@@ -1,15 +1,10 @@
 -- `choices::notes::decode_until` meets its contract: the instructions passed are noted. Assumes nothing.
-use Prim.Native.Nat.{ℕ, ◌+◌, ◌≤◌, ◌-◌, min}
-use mathlib.Core.Path.{◌≡◌, refl}
+use Prim.Native.Nat.{ℕ, ◌+◌, ◌≤◌, min}
 use mathlib.Core.List.{List}
-use native.Mathlib.Omega.{arith}
 use Rattle.record.specs.declared.Block.{Block}
-use Rattle.model.specs.Nodes.{fetch}
 use Rattle.unpacked.specs.inside.UnpackedBlock.{Shapes}
 use Rattle.choices.specs.inside.InstructionRows.{Playing}
 use Rattle.choices.specs.inside.PlayNotes.{Notes}
-use Rattle.choices.proofs.NotesDecoded.{notes_decoded}
-use borrow.Author.Rules.{rules}
 use Rattle.choices.proofs.notes.decode_until.Given as goal
 
 abbrev pub invariant-loop-i : goal.invariant-loop-i

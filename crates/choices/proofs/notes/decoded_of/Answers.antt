@@ -1,7 +1,6 @@
 -- `choices::notes::decoded_of` meets its contract: one more than the largest of three times, or a note. Assumes nothing.
 use mathlib.Core.Path.{refl}
 use Rattle.choices.specs.inside.NoteSteps.{decoded_of}
-use borrow.Author.Rules.{rules}
 use Rattle.choices.proofs.notes.decoded_of.Goals as goal
 
 pub returns : goal.returns

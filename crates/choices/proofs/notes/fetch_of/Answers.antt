@@ -2,7 +2,6 @@
 use mathlib.Core.Path.{refl}
 use native.Mathlib.Omega.{arith}
 use Rattle.choices.specs.inside.NoteSteps.{fetch_of}
-use borrow.Author.Rules.{rules}
 use Rattle.choices.proofs.notes.fetch_of.Goals as goal
 
 pub returns : goal.returns

@@ -1,17 +1,13 @@
 -- `choices::notes::units_into` meets its contract: the numbers passed say which units there are, and the rest is as it was. Assumes nothing.
 use mathlib.Core.Path.{◌≡◌, refl, ◌∙◌}
 use mathlib.Core.List.{List}
-use Prim.Native.Nat.{ℕ, ◌+◌, ◌-◌, ◌*◌, ◌%◌, ◌≤◌, ◌<◌}
+use Prim.Native.Nat.{ℕ, ◌+◌, ◌*◌, ◌%◌, ◌<◌}
 use native.Mathlib.Omega.{arith}
 use lib.ListN.{length, get_or, set, length-set}
 use lib.Seq.{get_or-set_same, get_or-set_other}
-use lib.Dec.{ltb, eqb}
+use lib.Dec.{eqb}
 use borrow.Author.Tests.{eqb-true, eqb-false}
-use Rattle.lists.specs.Lists.{pick}
 use Rattle.lists.proofs.Bools.{by_test}
-use Rattle.record.specs.declared.Block.{Block}
-use Rattle.model.specs.Cycles.{units}
-use Rattle.choices.specs.inside.NoteSteps.{never}
 use borrow.Author.Rules.{rules}
 use Rattle.choices.proofs.notes.units_into.Goals as goal
 

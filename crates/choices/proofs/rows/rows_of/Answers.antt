@@ -1,10 +1,9 @@
 -- `choices::rows::rows_of` meets its contract: `last` has the last writers of all registers, and the rows passed are filled. Assumes nothing.
-use mathlib.Core.Path.{◌≡◌, refl}
-use Prim.Native.Nat.{◌-◌, ◌≤◌}
+use mathlib.Core.Path.{refl}
 use native.Mathlib.Omega.{arith}
-use lib.ListN.{length, length-set}
-use Rattle.unpacked.proofs.LastWriters.{Writers, writers_none, writers_next}
-use Rattle.choices.proofs.RowsFilled.{Filled, filled_none, filled_more, filled_all}
+use lib.ListN.{length-set}
+use Rattle.unpacked.proofs.LastWriters.{writers_none, writers_next}
+use Rattle.choices.proofs.RowsFilled.{filled_none, filled_more, filled_all}
 use borrow.Author.Rules.{rules}
 use Rattle.choices.proofs.rows.rows_of.Goals as goal
 

@@ -8,7 +8,6 @@ use Rattle.lists.specs.Lists.{put}
 use Rattle.model.specs.Nodes.{IF, ID, EX, WB, CM, node}
 use Rattle.model.specs.Cycles.{play_place}
 use Rattle.choices.specs.inside.NoteSteps.{sources_of, row_into}
-use borrow.Author.Rules.{rules}
 use Rattle.choices.proofs.table.put_row.Goals as goal
 
 -- five puts of three numbers

@@ -1,10 +1,9 @@
 -- `choices::table::table_into` meets its contract: in each turn one instruction commits, and its row is written. Assumes nothing.
-use Prim.Native.Nat.{ℕ, ◌+◌, ◌-◌, ◌*◌, ◌≤◌, ◌<◌, min}
+use Prim.Native.Nat.{ℕ, ◌+◌, ◌≤◌, ◌<◌, min}
 use mathlib.Core.Path.{◌≡◌, refl, ◌∙◌}
 use mathlib.Core.Bool.{true}
 use mathlib.Core.List.{List}
 use native.Mathlib.Omega.{arith}
-use lib.ListN.{length}
 use Rattle.record.specs.declared.Block.{Block}
 use Rattle.record.proofs.AcceptedRanges.{ranges}
 use Rattle.unpacked.specs.inside.UnpackedBlock.{Shapes}
@@ -13,8 +12,7 @@ use Rattle.choices.specs.inside.NoteSteps.{fixed, Narrow}
 use Rattle.choices.specs.inside.PlayNotes.{Notes}
 use Rattle.choices.proofs.StartChosen.{leads}
 use Rattle.choices.proofs.NotesDecoded.{notes_committed}
-use Rattle.choices.proofs.RowWritten.{table_in, table_none, table_all, row_table, row_noted}
-use borrow.Author.Rules.{rules}
+use Rattle.choices.proofs.RowWritten.{table_none, table_all, row_table, row_noted}
 use Rattle.record.specs.Refusals.{block_verdict}
 use Rattle.unpacked.specs.declared.Shape.{Shape}
 use Rattle.choices.proofs.table.table_into.Goals as goal
@@ -71,8 +69,8 @@ until_started-requires c =
     = λ b P H. omega (arith, reached b H, c.loop-c-test.true, H.n, (ranges b P.accepted).w.0) in
     let decoded : (b : Block) → Playing b lat rows → Shapes b c.shape_of-h.result → Notes b lat t.c c.first_of-end.result c.decode_until.new.x
     = λ b P H.
-        let v = t.invariant.2 b P H in
-        c.decode_until.ensures.notes b lat rows t.c P H (omega (arith, reached b H, v.0.few, v.1)) (omega (arith, reached b H)) v.0 in
+    let v = t.invariant.2 b P H in
+    c.decode_until.ensures.notes b lat rows t.c P H (omega (arith, reached b H, v.0.few, v.1)) (omega (arith, reached b H)) v.0 in
     record {
       b = c.args.b;
       l = lat;
@@ -100,16 +98,16 @@ put_row-requires c =
     = λ b P H. omega (arith, reached b H, c.loop-c-test.true, H.n, (ranges b P.accepted).w.0) in
     let decoded : (b : Block) → Playing b lat rows → Shapes b c.shape_of-h.result → Notes b lat t.c c.first_of-end.result c.decode_until.new.x
     = λ b P H.
-        let v = t.invariant.2 b P H in
-        c.decode_until.ensures.notes b lat rows t.c P H (omega (arith, reached b H, v.0.few, v.1)) (omega (arith, reached b H)) v.0 in
+    let v = t.invariant.2 b P H in
+    c.decode_until.ensures.notes b lat rows t.c P H (omega (arith, reached b H, v.0.few, v.1)) (omega (arith, reached b H)) v.0 in
     let started : (b : Block) → Playing b lat rows → Shapes b c.shape_of-h.result
-        → Notes b lat t.c c.first_of-end.result c.until_started.new.x × (fixed c.until_started.new.x t.c ≡ true)
+    → Notes b lat t.c c.first_of-end.result c.until_started.new.x × (fixed c.until_started.new.x t.c ≡ true)
     = λ b P H. c.until_started.ensures.notes b lat P (omega (arith, reached b H)) (decoded b P H) in
     let committed : (b : Block) → Playing b lat rows → Shapes b c.shape_of-h.result → Notes b lat (t.c + 1) c.first_of-end.result c.commit_one.new.x
     = λ b P H.
-        let N = started b P H in
-        same-notes b lat _ _ _ _ c.commit_one.ensures
-        (notes_committed b lat rows P c.shape_of-h.result H t.c c.first_of-end.result c.until_started.new.x N.0 (some b P H) N.1) in
+    let N = started b P H in
+    same-notes b lat _ _ _ _ c.commit_one.ensures
+    (notes_committed b lat rows P c.shape_of-h.result H t.c c.first_of-end.result c.until_started.new.x N.0 (some b P H) N.1) in
     let n : t.c < c.args.b.n = omega (arith, c.loop-c-test.true, s.n) in (
       omega (arith, n, t.invariant.1, c.requires.3),
       leads c.args.b lat rows P t.c n,
@@ -128,17 +126,16 @@ loop-c-preserved c =
     = λ b P H. omega (arith, reached b H, c.loop-c-test.true, H.n, (ranges b P.accepted).w.0) in
     let decoded : (b : Block) → Playing b lat rows → Shapes b c.shape_of-h.result → Notes b lat t.c c.first_of-end.result c.decode_until.new.x
     = λ b P H.
-        let v = t.invariant.2 b P H in
-        c.decode_until.ensures.notes b lat rows t.c P H (omega (arith, reached b H, v.0.few, v.1)) (omega (arith, reached b H)) v.0 in
+    let v = t.invariant.2 b P H in
+    c.decode_until.ensures.notes b lat rows t.c P H (omega (arith, reached b H, v.0.few, v.1)) (omega (arith, reached b H)) v.0 in
     let started : (b : Block) → Playing b lat rows → Shapes b c.shape_of-h.result
-        → Notes b lat t.c c.first_of-end.result c.until_started.new.x × (fixed c.until_started.new.x t.c ≡ true)
+    → Notes b lat t.c c.first_of-end.result c.until_started.new.x × (fixed c.until_started.new.x t.c ≡ true)
     = λ b P H. c.until_started.ensures.notes b lat P (omega (arith, reached b H)) (decoded b P H) in
     let committed : (b : Block) → Playing b lat rows → Shapes b c.shape_of-h.result → Notes b lat (t.c + 1) c.first_of-end.result c.commit_one.new.x
     = λ b P H.
-        let N = started b P H in
-        same-notes b lat _ _ _ _ c.commit_one.ensures
-        (notes_committed b lat rows P c.shape_of-h.result H t.c c.first_of-end.result c.until_started.new.x N.0 (some b P H) N.1) in
-    (
+    let N = started b P H in
+    same-notes b lat _ _ _ _ c.commit_one.ensures
+    (notes_committed b lat rows P c.shape_of-h.result H t.c c.first_of-end.result c.until_started.new.x N.0 (some b P H) N.1) in (
       omega (arith, c.loop-c-test.true),
       c.put_row.auto.out ∙ t.invariant.1,
       λ b P H.

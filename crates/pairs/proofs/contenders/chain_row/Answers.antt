@@ -1,6 +1,6 @@
 -- `pairs::contenders::chain_row` meets its contract: the columns passed are those of the two rows joined, and the rows before are as they
 -- were. Assumes nothing.
-use Prim.Native.Nat.{ℕ, ◌*◌, ◌+◌, ◌-◌, ◌<◌, ◌≤◌}
+use Prim.Native.Nat.{ℕ, ◌*◌, ◌+◌, ◌<◌}
 use mathlib.Core.Path.{◌≡◌, refl}
 use mathlib.Core.Bool.{◌||◌, false, true}
 use native.Mathlib.Omega.{arith}

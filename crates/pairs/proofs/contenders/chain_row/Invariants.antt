@@ -1,12 +1,8 @@
 -- `pairs::contenders::chain_row` meets its contract: the columns passed are those of the two rows joined, and the rows before are as they
-use Prim.Native.Nat.{ℕ, ◌*◌, ◌+◌, ◌-◌, ◌<◌, ◌≤◌}
-use mathlib.Core.Path.{◌≡◌, refl}
-use mathlib.Core.Bool.{◌||◌, false, true}
-use native.Mathlib.Omega.{arith}
-use lib.ListN.{get_or, length, length-set, set}
-use borrow.Author.Count.{below_none}
-use Rattle.pairs.proofs.ChainTable.{before_row, row_mark, row_more}
-use borrow.Author.Rules.{rules}
+use Prim.Native.Nat.{ℕ, ◌+◌, ◌<◌, ◌≤◌}
+use mathlib.Core.Path.{◌≡◌}
+use mathlib.Core.Bool.{◌||◌, false}
+use lib.ListN.{get_or, length}
 use Rattle.pairs.proofs.contenders.chain_row.Given as goal
 
 abbrev pub invariant-loop-k : goal.invariant-loop-k

@@ -6,7 +6,6 @@ use mathlib.Core.List.{List}
 use native.Mathlib.Omega.{arith}
 use lib.ListN.{drop, get_or-replicate, length, length-drop, length-take}
 use borrow.Author.Count.{below_none}
-use Rattle.pairs.specs.inside.PairRows.{RowTable, row}
 use Rattle.pairs.specs.inside.RowSteps.{nearby}
 use Rattle.pairs.proofs.ChainTable.{nearby_contending}
 use Rattle.pairs.proofs.RowStore.{inside_part, rows_more, table_placed}

@@ -1,16 +1,8 @@
 -- `pairs::contenders::contenders_into` meets its contract: each row passed has its contenders. Assumes nothing.
-use Prim.Native.Nat.{ℕ, ◌*◌, ◌+◌, ◌-◌, ◌<◌, ◌≤◌}
-use mathlib.Core.Path.{◌∙◌, ◌≡◌, ap, refl}
-use mathlib.Core.Bool.{Bool, false}
-use mathlib.Core.List.{List}
-use native.Mathlib.Omega.{arith}
-use lib.ListN.{drop, get_or-replicate, length, length-drop, length-take}
-use borrow.Author.Count.{below_none}
+use Prim.Native.Nat.{ℕ, ◌<◌, ◌≤◌}
+use mathlib.Core.Path.{◌≡◌}
 use Rattle.pairs.specs.inside.PairRows.{RowTable, row}
 use Rattle.pairs.specs.inside.RowSteps.{nearby}
-use Rattle.pairs.proofs.ChainTable.{nearby_contending}
-use Rattle.pairs.proofs.RowStore.{inside_part, rows_more, table_placed}
-use borrow.Author.Rules.{rules}
 use Rattle.pairs.proofs.contenders.contenders_into.Given as goal
 
 abbrev pub invariant-loop-j : goal.invariant-loop-j

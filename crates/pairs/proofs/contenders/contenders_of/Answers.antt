@@ -1,16 +1,14 @@
 -- `pairs::contenders::contenders_of` meets its contract: the front of the row has those of the instructions passed. Assumes nothing.
-use Prim.Native.Nat.{◌*◌, ◌+◌, ◌-◌, ◌<◌, ◌≤◌}
+use Prim.Native.Nat.{◌*◌, ◌+◌, ◌-◌, ◌<◌}
 use mathlib.Core.Path.{◌∙◌, ◌≡◌, refl, sym}
 use mathlib.Core.Bool.{◌&&◌, false, not}
-use mathlib.Core.Logic.{⊎_elim}
 use native.Mathlib.Omega.{arith}
 use lib.Dec.{eqb}
-use lib.ListN.{get_or, length, length-set, take}
-use Rattle.lists.specs.Lists.{numbers_where, pick}
+use lib.ListN.{get_or, length-set}
+use Rattle.lists.specs.Lists.{pick}
 use Rattle.lists.proofs.Elements.{all_set}
 use Rattle.lists.proofs.NumbersWhere.{numbers_where_end, numbers_where_none}
 use Rattle.unpacked.specs.inside.UnpackedBlock.{kind_of}
-use Rattle.pairs.specs.inside.PairRows.{Inside}
 use Rattle.pairs.specs.inside.RowSteps.{nearby}
 use Rattle.pairs.proofs.RowStore.{numbers_where_store}
 use borrow.Author.Rules.{rules}

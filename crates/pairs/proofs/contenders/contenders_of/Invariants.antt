@@ -1,19 +1,12 @@
 -- `pairs::contenders::contenders_of` meets its contract: the front of the row has those of the instructions passed. Assumes nothing.
-use Prim.Native.Nat.{◌*◌, ◌+◌, ◌-◌, ◌<◌, ◌≤◌}
-use mathlib.Core.Path.{◌∙◌, ◌≡◌, refl, sym}
+use Prim.Native.Nat.{◌*◌, ◌+◌, ◌-◌, ◌≤◌}
+use mathlib.Core.Path.{◌≡◌}
 use mathlib.Core.Bool.{◌&&◌, false, not}
-use mathlib.Core.Logic.{⊎_elim}
-use native.Mathlib.Omega.{arith}
 use lib.Dec.{eqb}
-use lib.ListN.{get_or, length, length-set, take}
-use Rattle.lists.specs.Lists.{numbers_where, pick}
-use Rattle.lists.proofs.Elements.{all_set}
-use Rattle.lists.proofs.NumbersWhere.{numbers_where_end, numbers_where_none}
+use lib.ListN.{get_or, length, take}
+use Rattle.lists.specs.Lists.{numbers_where}
 use Rattle.unpacked.specs.inside.UnpackedBlock.{kind_of}
 use Rattle.pairs.specs.inside.PairRows.{Inside}
-use Rattle.pairs.specs.inside.RowSteps.{nearby}
-use Rattle.pairs.proofs.RowStore.{numbers_where_store}
-use borrow.Author.Rules.{rules}
 use Rattle.pairs.proofs.contenders.contenders_of.Given as goal
 
 abbrev pub invariant-loop-i : goal.invariant-loop-i

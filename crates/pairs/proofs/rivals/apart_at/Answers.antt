@@ -1,7 +1,6 @@
 -- `pairs::rivals::apart_at` meets its contract. Assumes nothing.
 use mathlib.Core.Path.{refl}
 use Rattle.pairs.specs.inside.PairRows.{apart_ex}
-use borrow.Author.Rules.{rules}
 use Rattle.pairs.proofs.rivals.apart_at.Goals as goal
 
 pub returns : goal.returns

@@ -1,14 +1,13 @@
 -- `pairs::rivals::first_apart` meets its contract: no row passed has one that is apart, and of this row none of those passed is. Assumes
 -- nothing.
-use Prim.Native.Nat.{ℕ, ◌*◌, ◌+◌, ◌-◌, ◌<◌, ◌≤◌}
+use Prim.Native.Nat.{◌*◌, ◌+◌, ◌≤◌}
 use mathlib.Core.Path.{◌∙◌, ◌≡◌, ap, refl, sym}
-use mathlib.Core.Bool.{false}
 use native.Mathlib.Omega.{arith}
-use lib.ListN.{drop, get_or, take}
+use lib.ListN.{get_or}
 use borrow.Author.Count.{below_more, below_none}
 use Rattle.lists.specs.Sums.{any}
 use Rattle.lists.proofs.Least.{least_here, least_none}
-use Rattle.pairs.specs.inside.PairRows.{apart_ex, row}
+use Rattle.pairs.specs.inside.PairRows.{apart_ex}
 use Rattle.pairs.specs.inside.RowSteps.{first_apart}
 use Rattle.pairs.proofs.RowScan.{found_one, pass_more}
 use borrow.Author.Rules.{rules}
@@ -46,8 +45,7 @@ loop-k-preserved c =
     let few : 60 * c.scan.j + get_or c.args.count.now c.scan.j 0 ≤ 3600 = omega (arith, c.requires.1.few c.scan.j, c.scan-test.true, c.requires.0) in
     let looked : apart_ex c.args.u.now c.args.early.now c.args.late.now c.scan.j (get_or c.args.list.now (60 * c.scan.j + c.loop-k.k) 0) ≡ c.apart_at.result = ap (apart_ex c.args.u.now c.args.early.now c.args.late.now c.scan.j) (sym c.index.ensures) ∙ sym c.apart_at.ensures in
     let t = c.loop-k in
-    let j = c.scan.j in
-    (
+    let j = c.scan.j in (
       t.invariant.0,
       omega arith,
       pass_more (apart_ex c.args.u.now c.args.early.now c.args.late.now j) c.args.list.now (60 * j) t.k

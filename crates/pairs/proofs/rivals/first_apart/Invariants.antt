@@ -1,16 +1,10 @@
 -- `pairs::rivals::first_apart` meets its contract: no row passed has one that is apart, and of this row none of those passed is. Assumes
-use Prim.Native.Nat.{ℕ, ◌*◌, ◌+◌, ◌-◌, ◌<◌, ◌≤◌}
-use mathlib.Core.Path.{◌∙◌, ◌≡◌, ap, refl, sym}
+use Prim.Native.Nat.{ℕ, ◌-◌, ◌<◌, ◌≤◌}
+use mathlib.Core.Path.{◌≡◌}
 use mathlib.Core.Bool.{false}
-use native.Mathlib.Omega.{arith}
-use lib.ListN.{drop, get_or, take}
-use borrow.Author.Count.{below_more, below_none}
+use lib.ListN.{drop, take}
 use Rattle.lists.specs.Sums.{any}
-use Rattle.lists.proofs.Least.{least_here, least_none}
 use Rattle.pairs.specs.inside.PairRows.{apart_ex, row}
-use Rattle.pairs.specs.inside.RowSteps.{first_apart}
-use Rattle.pairs.proofs.RowScan.{found_one, pass_more}
-use borrow.Author.Rules.{rules}
 use Rattle.pairs.proofs.rivals.first_apart.Given as goal
 
 abbrev pub invariant-loop-k : goal.invariant-loop-k

@@ -1,14 +1,12 @@
 -- `pairs::rivals::later_of` meets its contract: after j rows each instruction has the largest of its later ones below j. Assumes nothing.
-use Prim.Native.Nat.{ℕ, ◌*◌, ◌+◌, ◌-◌, ◌<◌, ◌≤◌}
+use Prim.Native.Nat.{ℕ, ◌*◌, ◌+◌, ◌-◌}
 use mathlib.Core.Path.{◌∙◌, ◌≡◌, ap, refl, sym}
-use mathlib.Core.Bool.{Bool}
 use native.Mathlib.Omega.{arith}
-use lib.ListN.{drop, get_or, length, take}
+use lib.ListN.{drop, get_or, take}
 use Rattle.lists.specs.Lists.{numbers_where}
 use Rattle.lists.proofs.Elements.{get_or_zeros}
 use Rattle.unpacked.specs.inside.UnpackedBlock.{high_of}
-use Rattle.pairs.specs.inside.PairRows.{Rows}
-use Rattle.pairs.proofs.LaterLatencies.{later_more, later_none, later_of}
+use Rattle.pairs.proofs.LaterLatencies.{later_more, later_none}
 use Rattle.pairs.proofs.RowStore.{inside_part}
 use borrow.Author.Rules.{rules}
 use Rattle.pairs.proofs.rivals.later_of.Goals as goal

@@ -1,10 +1,10 @@
 -- `pairs::rivals::later_row` meets its contract: each element of those passed has been raised. Assumes nothing.
-use Prim.Native.Nat.{ℕ, ◌-◌, ◌<◌, ◌≤◌, max}
+use Prim.Native.Nat.{ℕ, ◌<◌, max}
 use mathlib.Core.Path.{◌∙◌, ◌≡◌, ap}
 use mathlib.Core.List.{List}
 use native.Mathlib.Omega.{arith}
 use lib.Dec.{eqb}
-use lib.ListN.{get_or, length, length-set, take}
+use lib.ListN.{get_or, length, length-set}
 use Rattle.lists.specs.Lists.{pick}
 use Rattle.lists.specs.Sums.{any}
 use Rattle.lists.proofs.Fronts.{take_end}
@@ -29,8 +29,7 @@ bounds-most-i-in-loop-k c =
 pub loop-k-preserved : goal.loop-k-preserved
 loop-k-preserved c =
     let below : c.index-i.result < 60 = omega (arith, c.requires.1 c.loop-k.k, c.index-i.ensures) in
-    let t = c.loop-k in
-    (
+    let t = c.loop-k in (
       search rules,
       simp length-set (search rules),
       raise_more c.args.x c.args.row.now c.args.most.now t.most t.k c.index-i.result (search rules) c.index-i.ensures

@@ -1,15 +1,10 @@
 -- `pairs::rivals::later_row` meets its contract: each element of those passed has been raised. Assumes nothing.
-use Prim.Native.Nat.{ℕ, ◌-◌, ◌<◌, ◌≤◌, max}
-use mathlib.Core.Path.{◌∙◌, ◌≡◌, ap}
-use mathlib.Core.List.{List}
-use native.Mathlib.Omega.{arith}
+use Prim.Native.Nat.{ℕ, ◌≤◌, max}
+use mathlib.Core.Path.{◌≡◌}
 use lib.Dec.{eqb}
-use lib.ListN.{get_or, length, length-set, take}
+use lib.ListN.{get_or, length, take}
 use Rattle.lists.specs.Lists.{pick}
 use Rattle.lists.specs.Sums.{any}
-use Rattle.lists.proofs.Fronts.{take_end}
-use Rattle.pairs.proofs.LaterLatencies.{raise_more}
-use borrow.Author.Rules.{rules}
 use Rattle.pairs.proofs.rivals.later_row.Given as goal
 
 abbrev pub invariant-loop-k : goal.invariant-loop-k

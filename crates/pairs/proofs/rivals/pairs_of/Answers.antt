@@ -1,8 +1,6 @@
 -- `pairs::rivals::pairs_of` meets its contract: the sum of those passed, none above 60. Assumes nothing.
-use Prim.Native.Nat.{◌*◌, ◌-◌, ◌≤◌}
 use mathlib.Core.Path.{◌≡◌, refl}
 use native.Mathlib.Omega.{arith}
-use lib.ListN.{take}
 use Rattle.lists.specs.Sums.{sum}
 use Rattle.lists.proofs.Fronts.{sum_more}
 use borrow.Author.Rules.{rules}
@@ -18,8 +16,7 @@ overflow_add-sum c =
 
 pub loop-j-preserved : goal.loop-j-preserved
 loop-j-preserved c =
-    let t = c.loop-j in
-    (
+    let t = c.loop-j in (
       search rules,
       omega (arith, sum_more c.args.count.now t.j (omega (arith, c.requires.1, c.requires.0)), t.invariant.1),
       omega (arith, c.requires.2 t.j, t.invariant.2),

@@ -1,11 +1,8 @@
 -- `pairs::rivals::pairs_of` meets its contract: the sum of those passed, none above 60. Assumes nothing.
-use Prim.Native.Nat.{◌*◌, ◌-◌, ◌≤◌}
-use mathlib.Core.Path.{◌≡◌, refl}
-use native.Mathlib.Omega.{arith}
+use Prim.Native.Nat.{◌*◌, ◌≤◌}
+use mathlib.Core.Path.{◌≡◌}
 use lib.ListN.{take}
 use Rattle.lists.specs.Sums.{sum}
-use Rattle.lists.proofs.Fronts.{sum_more}
-use borrow.Author.Rules.{rules}
 use Rattle.pairs.proofs.rivals.pairs_of.Given as goal
 
 abbrev pub invariant-loop-j : goal.invariant-loop-j

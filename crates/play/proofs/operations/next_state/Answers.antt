@@ -1,8 +1,8 @@
 -- `play::operations::next_state` meets its contract: a state holds 300 starts, and in a fit one none is after its cycle. Assumes nothing.
-use mathlib.Core.Path.{◌≡◌, sym, subst, ◌∙◌}
+use mathlib.Core.Path.{◌≡◌, sym, subst}
 use Prim.Native.Nat.{ℕ}
 use native.Mathlib.Omega.{arith}
-use lib.ListN.{length, length-map}
+use lib.ListN.{length}
 use Rattle.model.specs.Nodes.{chosen}
 use Rattle.unpacked.specs.inside.UnpackedBlock.{Unpacked}
 use Rattle.unpacked.proofs.BlockColumns.{few, within}
@@ -11,7 +11,6 @@ use Rattle.play.specs.Promises.{state_of}
 use Rattle.play.proofs.UnfitStates.{fit_now, fit_timed}
 use Rattle.play.proofs.LatencyList.{listed}
 use Rattle.play.proofs.LengthAndState.{cycled}
-use borrow.Author.Rules.{rules}
 use Rattle.play.proofs.operations.next_state.Goals as goal
 
 pub columns_of-u-requires : goal.columns_of-u-requires

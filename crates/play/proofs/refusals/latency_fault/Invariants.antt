@@ -1,12 +1,8 @@
 -- `play::refusals::latency_fault` meets its contract: no latency passed is outside its range. Assumes nothing.
-use mathlib.Core.Path.{◌≡◌, sym, ◌∙◌}
+use mathlib.Core.Path.{◌≡◌}
 use mathlib.Core.Bool.{false}
-use Prim.Native.Nat.{ℕ, ◌≤◌, ◌<◌, ◌-◌}
-use native.Mathlib.Omega.{arith}
-use borrow.Author.Count.{below_none, below_more}
-use Rattle.lists.proofs.Least.{least_here, least_none}
+use Prim.Native.Nat.{ℕ, ◌≤◌, ◌<◌}
 use Rattle.play.specs.Refusals.{wrong}
-use borrow.Author.Rules.{rules}
 use Rattle.play.proofs.refusals.latency_fault.Given as goal
 
 abbrev pub invariant-loop-i : goal.invariant-loop-i

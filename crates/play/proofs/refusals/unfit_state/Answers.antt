@@ -1,11 +1,8 @@
 -- `play::refusals::unfit_state` meets its contract: no start passed is unfit. Assumes nothing.
-use mathlib.Core.Path.{◌≡◌, sym, ◌∙◌}
-use mathlib.Core.Bool.{false}
-use Prim.Native.Nat.{ℕ, ◌≤◌, ◌<◌, ◌-◌, ◌*◌}
+use mathlib.Core.Path.{sym, ◌∙◌}
+use Prim.Native.Nat.{◌*◌}
 use native.Mathlib.Omega.{arith}
 use borrow.Author.Count.{below_none, below_more}
-use Rattle.model.specs.Cycles.{last_cycle, start}
-use Rattle.play.specs.inside.StartTest.{unfit_at}
 use Rattle.play.specs.Promises.{state_of}
 use Rattle.play.proofs.UnfitStates.{unfit_after, unfit_here, unfit_none}
 use borrow.Author.Rules.{rules}

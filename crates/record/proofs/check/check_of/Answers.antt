@@ -1,6 +1,5 @@
 -- `record::check::check_of` meets its contract: after k words the two sums are those of the definition. Assumes nothing.
 use mathlib.Core.Path.{◌≡◌, refl}
-use Prim.Native.Nat.{◌≤◌, ◌<◌, ◌-◌}
 use Rattle.record.specs.Check.{sum_a, sum_b, check_of}
 use Rattle.record.proofs.CheckByWord.{sum_a_more, sum_b_more}
 use borrow.Author.Rules.{rules}

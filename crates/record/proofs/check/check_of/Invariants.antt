@@ -1,9 +1,7 @@
 -- `record::check::check_of` meets its contract: after k words the two sums are those of the definition. Assumes nothing.
-use mathlib.Core.Path.{◌≡◌, refl}
-use Prim.Native.Nat.{◌≤◌, ◌<◌, ◌-◌}
-use Rattle.record.specs.Check.{sum_a, sum_b, check_of}
-use Rattle.record.proofs.CheckByWord.{sum_a_more, sum_b_more}
-use borrow.Author.Rules.{rules}
+use mathlib.Core.Path.{◌≡◌}
+use Prim.Native.Nat.{◌≤◌, ◌<◌}
+use Rattle.record.specs.Check.{sum_a, sum_b}
 use Rattle.record.proofs.check.check_of.Given as goal
 
 abbrev pub invariant-loop-k : goal.invariant-loop-k

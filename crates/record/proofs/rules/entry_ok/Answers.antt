@@ -1,7 +1,6 @@
 -- `record::rules::entry_ok` meets its contract. Assumes nothing.
 use mathlib.Core.Path.{◌∙◌}
 use Rattle.record.proofs.EntryRules.{wrong_used, wrong_unused}
-use borrow.Author.Rules.{rules}
 use Rattle.record.proofs.rules.entry_ok.Goals as goal
 
 pub returns-then-i-n : goal.returns-then-i-n

@@ -1,7 +1,5 @@
 -- `record::rules::header_fault` meets its contract: no byte passed is outside its range. Assumes nothing.
-use mathlib.Core.Path.{◌≡◌, sym}
-use mathlib.Core.Bool.{false}
-use Prim.Native.Nat.{ℕ, ◌≤◌, ◌<◌, ◌-◌}
+use mathlib.Core.Path.{sym}
 use native.Mathlib.Omega.{arith}
 use borrow.Author.Count.{below_none, below_more}
 use Rattle.record.specs.Rules.{header_table, lows, highs, outside}

@@ -1,12 +1,8 @@
 -- `record::rules::header_fault` meets its contract: no byte passed is outside its range. Assumes nothing.
-use mathlib.Core.Path.{◌≡◌, sym}
+use mathlib.Core.Path.{◌≡◌}
 use mathlib.Core.Bool.{false}
-use Prim.Native.Nat.{ℕ, ◌≤◌, ◌<◌, ◌-◌}
-use native.Mathlib.Omega.{arith}
-use borrow.Author.Count.{below_none, below_more}
-use Rattle.record.specs.Rules.{header_table, lows, highs, outside}
-use Rattle.lists.proofs.Least.{least_here, least_none}
-use borrow.Author.Rules.{rules}
+use Prim.Native.Nat.{ℕ, ◌≤◌, ◌<◌}
+use Rattle.record.specs.Rules.{outside}
 use Rattle.record.proofs.rules.header_fault.Given as goal
 
 abbrev pub invariant-loop-k : goal.invariant-loop-k

@@ -2,7 +2,6 @@
 use Rattle.record.specs.Rules.{used_bytes}
 use Rattle.record.specs.Layout.{entry_bytes}
 use Rattle.record.proofs.EntryRules.{first_six}
-use borrow.Author.Rules.{rules}
 use Rattle.record.proofs.rules.used_ok.Goals as goal
 
 pub returns : goal.returns

@@ -1,11 +1,10 @@
 -- `report_lines::fields::text_into` meets its contract: the bytes passed stand in their places, and the others are as they were. Assumes
 -- nothing.
-use Prim.Native.Nat.{◌-◌, ◌≤◌}
 use mathlib.Core.Path.{◌≡◌, refl}
 use native.Mathlib.Omega.{arith}
 use native.Mathlib.Numerals.{add-one}
 use lib.ListN.{length, length-set}
-use lib.Seq.{paste, paste-suc, paste-zero, take-length}
+use lib.Seq.{paste-suc, paste-zero, take-length}
 use borrow.Author.Rules.{rules}
 use Rattle.report_lines.proofs.fields.text_into.Goals as goal
 
@@ -15,8 +14,7 @@ loop-k-init c =
 
 pub loop-k-preserved : goal.loop-k-preserved
 loop-k-preserved c =
-    let t = c.loop-k in
-    (
+    let t = c.loop-k in (
       search rules,
       refl,
       simp length-set (search rules),

@@ -1,11 +1,8 @@
 -- `report_lines::fields::text_into` meets its contract: the bytes passed stand in their places, and the others are as they were. Assumes
-use Prim.Native.Nat.{◌-◌, ◌≤◌}
-use mathlib.Core.Path.{◌≡◌, refl}
-use native.Mathlib.Omega.{arith}
-use native.Mathlib.Numerals.{add-one}
-use lib.ListN.{length, length-set}
-use lib.Seq.{paste, paste-suc, paste-zero, take-length}
-use borrow.Author.Rules.{rules}
+use Prim.Native.Nat.{◌≤◌}
+use mathlib.Core.Path.{◌≡◌}
+use lib.ListN.{length}
+use lib.Seq.{paste}
 use Rattle.report_lines.proofs.fields.text_into.Given as goal
 
 abbrev pub invariant-loop-k : goal.invariant-loop-k

@@ -2,7 +2,6 @@
 use native.Mathlib.Omega.{arith}
 use Rattle.report_lines.specs.inside.TextSteps.{counts_text}
 use Rattle.report_lines.proofs.TextsInOrder.{field_put, fields_put, last_field, more_fields}
-use borrow.Author.Rules.{rules}
 use Rattle.report_lines.proofs.records.counts_into.Goals as goal
 
 pub number_into-a1-requires : goal.number_into-a1-requires

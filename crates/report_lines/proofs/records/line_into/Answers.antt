@@ -1,10 +1,8 @@
 -- `report_lines::records::line_into` meets its contract. Assumes nothing.
 use native.Mathlib.Omega.{arith}
 use native.Mathlib.Nat.{zero-add}
-use Rattle.record.specs.Rules.{at}
 use Rattle.report_lines.specs.Report.{line}
 use Rattle.report_lines.proofs.TextsInOrder.{put_counts}
-use borrow.Author.Rules.{rules}
 use Rattle.report_lines.proofs.records.line_into.Goals as goal
 
 pub line_at-requires : goal.line_at-requires

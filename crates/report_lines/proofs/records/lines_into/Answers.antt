@@ -4,11 +4,9 @@ use mathlib.Core.Path.{◌≡◌, sym}
 use native.Mathlib.Omega.{arith}
 use lib.ListN.{take}
 use lib.Seq.{length-take-le}
-use Rattle.record.specs.Rules.{at}
 use Rattle.report_lines.specs.Report.{lines_from}
 use Rattle.report_lines.proofs.ArchiveRecords.{take_smaller}
 use Rattle.report_lines.proofs.TextsInOrder.{put_counts}
-use borrow.Author.Rules.{rules}
 use Rattle.report_lines.proofs.records.lines_into.Goals as goal
 
 pub slice_bounds-piece_into-end : goal.slice_bounds-piece_into-end

@@ -1,10 +1,10 @@
 -- `report_lines::records::piece_into` meets its contract: the lines of the records passed stand one after the other, each of 128 bytes at
 -- most. Assumes nothing.
-use Prim.Native.Nat.{◌*◌, ◌+◌, ◌-◌, ◌/◌, ◌≤◌}
+use Prim.Native.Nat.{◌*◌, ◌+◌, ◌-◌, ◌/◌}
 use mathlib.Core.Path.{◌≡◌, refl}
 use native.Mathlib.Omega.{arith}
 use lib.ListN.{drop, length, take}
-use Rattle.lists.specs.Lists.{joined, put}
+use Rattle.lists.specs.Lists.{joined}
 use Rattle.report_lines.specs.Report.{line, lines_from, record_at, records}
 use Rattle.report_lines.proofs.ArchiveRecords.{record_part}
 use Rattle.report_lines.proofs.TextsInOrder.{texts_more}

@@ -1,13 +1,9 @@
 -- `report_lines::records::piece_into` meets its contract: the lines of the records passed stand one after the other, each of 128 bytes at
-use Prim.Native.Nat.{◌*◌, ◌+◌, ◌-◌, ◌/◌, ◌≤◌}
-use mathlib.Core.Path.{◌≡◌, refl}
-use native.Mathlib.Omega.{arith}
-use lib.ListN.{drop, length, take}
+use Prim.Native.Nat.{◌*◌, ◌+◌, ◌≤◌}
+use mathlib.Core.Path.{◌≡◌}
+use lib.ListN.{length}
 use Rattle.lists.specs.Lists.{joined, put}
-use Rattle.report_lines.specs.Report.{line, lines_from, record_at, records}
-use Rattle.report_lines.proofs.ArchiveRecords.{record_part}
-use Rattle.report_lines.proofs.TextsInOrder.{texts_more}
-use borrow.Author.Rules.{rules}
+use Rattle.report_lines.specs.Report.{line, record_at}
 use Rattle.report_lines.proofs.records.piece_into.Given as goal
 
 abbrev pub invariant-loop-k : goal.invariant-loop-k

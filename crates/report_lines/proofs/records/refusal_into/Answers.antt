@@ -2,7 +2,6 @@
 use native.Mathlib.Omega.{arith}
 use Rattle.report_lines.specs.Report.{refusal_line}
 use Rattle.report_lines.proofs.TextsInOrder.{field_put, fields_put, last_field, more_fields}
-use borrow.Author.Rules.{rules}
 use Rattle.report_lines.proofs.records.refusal_into.Goals as goal
 
 pub text_into-a1-requires : goal.text_into-a1-requires

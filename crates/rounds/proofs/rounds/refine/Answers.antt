@@ -1,7 +1,6 @@
 -- `rounds::rounds::refine` meets its contract: the rows' pairs are counted before and after the rounds. Assumes nothing.
 use Prim.Native.Nat.{ℕ, ◌+◌, ◌≤◌}
 use mathlib.Core.Path.{◌∙◌, ◌≡◌, ap}
-use mathlib.Core.List.{List}
 use native.Mathlib.Omega.{arith}
 use lib.ListN.{take}
 use Rattle.lists.specs.Sums.{sum}
@@ -11,9 +10,7 @@ use Rattle.model.proofs.RoundsEnd.{rounds_most}
 use Rattle.unpacked.specs.inside.UnpackedBlock.{Unpacked, Within}
 use Rattle.unpacked.proofs.BlockColumns.{within}
 use Rattle.pairs.proofs.RowStore.{table_none}
-use Rattle.rounds.specs.inside.BlockTimes.{AfterLast}
 use Rattle.rounds.proofs.RoundLoop.{left_sum, pairs_sum}
-use borrow.Author.Rules.{rules}
 use Rattle.rounds.proofs.rounds.refine.Goals as goal
 
 pub contenders_into-requires : goal.contenders_into-requires
@@ -51,14 +48,14 @@ returns c =
     let few : (b : Block) → Unpacked b x.h x.u.now → b.n ≤ 60 = λ b U. omega (arith, W.few, U.shape.n) in
     let pairs : (b : Block) → Unpacked b x.h x.u.now → before.result ≡ pair_count b
     = λ b U.
-        before.ensures.0
-        ∙ ap (λ (m : ℕ). sum (take m c.contenders_into.new.count)) U.shape.n
-        ∙ pairs_sum b _ c.contenders_into.new.count (few b U) (rows.rows b U) in
+    before.ensures.0
+    ∙ ap (λ (m : ℕ). sum (take m c.contenders_into.new.count)) U.shape.n
+    ∙ pairs_sum b _ c.contenders_into.new.count (few b U) (rows.rows b U) in
     let left : (b : Block) → Unpacked b x.h x.u.now → apart_count b + after.result ≡ pair_count b
     = λ b U.
-        let last = over.ensures.last b U in
-        ap (λ (m : ℕ). apart_count b + m) (after.ensures.0 ∙ ap (λ (m : ℕ). sum (take m over.new.count)) U.shape.n)
-        ∙ left_sum b _ over.new.count (few b U) last.rows last.even in
+    let last = over.ensures.last b U in
+    ap (λ (m : ℕ). apart_count b + m) (after.ensures.0 ∙ ap (λ (m : ℕ). sum (take m over.new.count)) U.shape.n)
+    ∙ left_sum b _ over.new.count (few b U) last.rows last.even in
     record {
       long = over.ensures.long;
       rounds = omega (arith, (over.ensures.last some.b some.unpacked).rounds, rounds_most some.b, pairs some.b some.unpacked, most);

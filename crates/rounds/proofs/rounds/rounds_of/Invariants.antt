@@ -1,21 +1,12 @@
 -- `rounds::rounds::rounds_of` meets its contract: before round k its rows have its rivals. Assumes nothing.
-use Prim.Native.Nat.{ℕ, ◌+◌, ◌-◌, ◌<◌, ◌≤◌}
-use mathlib.Core.Path.{◌∙◌, ◌≡◌, sym}
-use mathlib.Core.List.{List}
-use native.Mathlib.Omega.{arith}
+use Prim.Native.Nat.{◌+◌, ◌-◌, ◌≤◌}
+use mathlib.Core.Path.{◌≡◌}
 use lib.ListN.{length, take}
 use Rattle.lists.specs.Sums.{sum}
 use Rattle.record.specs.declared.Block.{Block}
-use Rattle.model.specs.Paths.{contending, count}
-use Rattle.model.specs.Rounds.{rival, round}
-use Rattle.unpacked.specs.declared.Shape.{Shape}
-use Rattle.unpacked.specs.inside.UnpackedBlock.{Unpacked, Within}
-use Rattle.unpacked.proofs.BlockColumns.{within}
+use Rattle.unpacked.specs.inside.UnpackedBlock.{Unpacked}
 use Rattle.pairs.specs.inside.PairRows.{RowTable}
-use Rattle.pairs.specs.inside.RowSteps.{RowsKept, first_apart}
-use Rattle.rounds.specs.inside.BlockTimes.{AfterLast, TimesOf}
-use Rattle.rounds.proofs.RoundLoop.{BeforeRound, apart_most, few_pairs, fewer_pairs, rounds_first, rounds_last, rounds_next}
-use borrow.Author.Rules.{rules}
+use Rattle.rounds.proofs.RoundLoop.{BeforeRound}
 use Rattle.rounds.proofs.rounds.rounds_of.Given as goal
 
 abbrev pub invariant-loop-h : goal.invariant-loop-h

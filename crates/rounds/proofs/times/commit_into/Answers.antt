@@ -1,7 +1,6 @@
 -- `rounds::times::commit_into` meets its contract. Assumes nothing.
 use mathlib.Core.Path.{refl}
 use Rattle.rounds.specs.inside.FiveStarts.{committed}
-use borrow.Author.Rules.{rules}
 use Rattle.rounds.proofs.times.commit_into.Goals as goal
 
 pub returns : goal.returns

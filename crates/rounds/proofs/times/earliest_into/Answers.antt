@@ -1,14 +1,12 @@
 -- `rounds::times::earliest_into` meets its contract: after i instructions the times are filled to their nodes. Assumes nothing.
-use Prim.Native.Nat.{◌*◌, ◌-◌, ◌<◌, ◌≤◌}
+use Prim.Native.Nat.{◌*◌, ◌<◌}
 use mathlib.Core.Path.{◌∙◌, ◌≡◌, ap, refl}
 use native.Mathlib.Omega.{arith}
 use lib.ListN.{length}
-use Rattle.lists.proofs.BufferFill.{Filled, filled_at, filled_none}
-use Rattle.record.specs.declared.Block.{Block}
+use Rattle.lists.proofs.BufferFill.{filled_at, filled_none}
 use Rattle.model.specs.Cycles.{ready}
 use Rattle.model.specs.Nodes.{lowest, nodes}
 use Rattle.model.specs.Rounds.{earliest}
-use Rattle.unpacked.specs.inside.UnpackedBlock.{Unpacked}
 use Rattle.rounds.proofs.TimesFilled.{committed_length, fetched_length}
 use Rattle.rounds.proofs.TimesTurn.{earliest_turn}
 use borrow.Author.Rules.{rules}
@@ -33,8 +31,7 @@ commit_into-requires c =
 
 pub loop-i-preserved : goal.loop-i-preserved
 loop-i-preserved c =
-    let t = c.loop-i in
-    (
+    let t = c.loop-i in (
       refl,
       omega arith,
       ap length c.commit_into.ensures ∙ committed_length _ _ _ _ _

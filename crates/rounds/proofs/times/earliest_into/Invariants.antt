@@ -1,17 +1,12 @@
 -- `rounds::times::earliest_into` meets its contract: after i instructions the times are filled to their nodes. Assumes nothing.
-use Prim.Native.Nat.{◌*◌, ◌-◌, ◌<◌, ◌≤◌}
-use mathlib.Core.Path.{◌∙◌, ◌≡◌, ap, refl}
-use native.Mathlib.Omega.{arith}
+use Prim.Native.Nat.{◌*◌, ◌≤◌}
+use mathlib.Core.Path.{◌≡◌}
 use lib.ListN.{length}
-use Rattle.lists.proofs.BufferFill.{Filled, filled_at, filled_none}
+use Rattle.lists.proofs.BufferFill.{Filled}
 use Rattle.record.specs.declared.Block.{Block}
 use Rattle.model.specs.Cycles.{ready}
-use Rattle.model.specs.Nodes.{lowest, nodes}
-use Rattle.model.specs.Rounds.{earliest}
+use Rattle.model.specs.Nodes.{lowest}
 use Rattle.unpacked.specs.inside.UnpackedBlock.{Unpacked}
-use Rattle.rounds.proofs.TimesFilled.{committed_length, fetched_length}
-use Rattle.rounds.proofs.TimesTurn.{earliest_turn}
-use borrow.Author.Rules.{rules}
 use Rattle.rounds.proofs.times.earliest_into.Given as goal
 
 abbrev pub invariant-loop-i : goal.invariant-loop-i

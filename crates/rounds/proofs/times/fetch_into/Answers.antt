@@ -2,7 +2,6 @@
 use mathlib.Core.Path.{refl}
 use native.Mathlib.Nat.{add-zero}
 use Rattle.rounds.specs.inside.FiveStarts.{fetched}
-use borrow.Author.Rules.{rules}
 use Rattle.rounds.proofs.times.fetch_into.Goals as goal
 
 pub returns : goal.returns

@@ -1,9 +1,9 @@
 -- `rounds::times::last_of` meets its contract: the largest of those passed. Assumes nothing.
-use Prim.Native.Nat.{ℕ, ◌-◌, ◌≤◌}
+use Prim.Native.Nat.{ℕ}
 use mathlib.Core.Path.{◌∙◌, ◌≡◌, ap, refl, sym}
 use mathlib.Core.List.{List, map}
 use native.Mathlib.Omega.{arith}
-use lib.ListN.{length, take}
+use lib.ListN.{length}
 use Rattle.lists.specs.Sums.{largest}
 use Rattle.lists.proofs.Fronts.{largest_more, take_end}
 use Rattle.pairs.specs.inside.PairRows.{finish_ex}

@@ -1,13 +1,10 @@
 -- `rounds::times::last_of` meets its contract: the largest of those passed. Assumes nothing.
-use Prim.Native.Nat.{ℕ, ◌-◌, ◌≤◌}
-use mathlib.Core.Path.{◌∙◌, ◌≡◌, ap, refl, sym}
-use mathlib.Core.List.{List, map}
-use native.Mathlib.Omega.{arith}
+use Prim.Native.Nat.{◌≤◌}
+use mathlib.Core.Path.{◌≡◌}
+use mathlib.Core.List.{map}
 use lib.ListN.{length, take}
 use Rattle.lists.specs.Sums.{largest}
-use Rattle.lists.proofs.Fronts.{largest_more, take_end}
 use Rattle.pairs.specs.inside.PairRows.{finish_ex}
-use borrow.Author.Rules.{rules}
 use Rattle.rounds.proofs.times.last_of.Given as goal
 
 abbrev pub invariant-loop-k : goal.invariant-loop-k

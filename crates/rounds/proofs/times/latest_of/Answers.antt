@@ -1,7 +1,6 @@
 -- `rounds::times::latest_of` meets its contract. Assumes nothing.
 use native.Mathlib.Omega.{arith}
 use Rattle.rounds.specs.inside.FiveStarts.{latest_of}
-use borrow.Author.Rules.{rules}
 use Rattle.rounds.proofs.times.latest_of.Goals as goal
 
 pub returns : goal.returns

@@ -4,14 +4,11 @@ use mathlib.Core.Path.{◌∙◌, ◌≡◌, ap, refl}
 use native.Mathlib.Omega.{arith}
 use lib.ListN.{drop, get_or, length, take}
 use Rattle.lists.specs.Lists.{numbers_where}
-use Rattle.lists.proofs.BufferFill.{Filled, filled_at, filled_none}
+use Rattle.lists.proofs.BufferFill.{filled_at, filled_none}
 use Rattle.lists.proofs.Fronts.{take_most}
-use Rattle.record.specs.declared.Block.{Block}
 use Rattle.model.specs.Nodes.{nodes}
-use Rattle.model.specs.Paths.{Pairs}
 use Rattle.model.specs.Rounds.{latest_start, rival, round}
-use Rattle.unpacked.specs.inside.UnpackedBlock.{Unpacked, high_of}
-use Rattle.pairs.specs.inside.PairRows.{Even, Rows}
+use Rattle.unpacked.specs.inside.UnpackedBlock.{high_of}
 use Rattle.pairs.proofs.LaterLatencies.{later_same}
 use Rattle.pairs.proofs.RowStore.{inside_part}
 use Rattle.rounds.proofs.TimesFilled.{committed_length, fetched_length}

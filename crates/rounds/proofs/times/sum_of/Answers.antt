@@ -1,9 +1,9 @@
 -- `rounds::times::sum_of` meets its contract: the sum of those passed, none above 255. Assumes nothing.
-use Prim.Native.Nat.{ℕ, ◌*◌, ◌-◌, ◌<◌, ◌≤◌}
+use Prim.Native.Nat.{ℕ, ◌<◌}
 use mathlib.Core.Path.{◌∙◌, ◌≡◌, ap, refl}
 use mathlib.Core.List.{List, map}
 use native.Mathlib.Omega.{arith}
-use lib.ListN.{get_or, length, take}
+use lib.ListN.{get_or, length}
 use Rattle.lists.specs.Sums.{sum}
 use Rattle.lists.proofs.Fronts.{sum_map_more, take_end}
 use Rattle.unpacked.specs.inside.UnpackedBlock.{high_of}

@@ -1,6 +1,5 @@
 -- `trial_blocks::sums::sum_numbers` is safe and ends. Assumes nothing.
-use Prim.Native.Nat.{◌≤◌, ◌-◌}
-use borrow.Author.Rules.{rules}
+use Prim.Native.Nat.{◌≤◌}
 use lib.ListN.{length}
 use Rattle.trial_blocks.proofs.sums.sum_numbers.Given as goal
 

@@ -1,7 +1,5 @@
 -- `trial_blocks::sums::untouched` is safe and ends. Assumes nothing.
-use Prim.Native.Nat.{◌≤◌, ◌-◌}
-use borrow.Author.Rules.{rules}
-use lib.ListN.{length}
+use Prim.Native.Nat.{◌≤◌}
 use Rattle.trial_blocks.proofs.sums.untouched.Given as goal
 
 abbrev pub invariant-loop-k : goal.invariant-loop-k

@@ -1,6 +1,5 @@
 -- `trial_second::pairs::contenders` is safe and ends. Assumes nothing.
-use Prim.Native.Nat.{◌≤◌, ◌-◌}
-use borrow.Author.Rules.{rules}
+use Prim.Native.Nat.{◌≤◌}
 use Rattle.trial_second.proofs.pairs.contenders.Given as goal
 
 abbrev pub invariant-loop-i : goal.invariant-loop-i

@@ -1,6 +1,5 @@
 -- `trial_second::pairs::part` is safe and ends. Assumes nothing.
-use Prim.Native.Nat.{◌≤◌, ◌-◌}
-use borrow.Author.Rules.{rules}
+use Prim.Native.Nat.{◌≤◌}
 use Rattle.trial_second.proofs.pairs.part.Given as goal
 
 abbrev pub invariant-loop-j : goal.invariant-loop-j

@@ -1,6 +1,5 @@
 -- `trial_second::times::relaxed` is safe and ends. Assumes nothing.
-use Prim.Native.Nat.{◌≤◌, ◌-◌}
-use borrow.Author.Rules.{rules}
+use Prim.Native.Nat.{◌≤◌}
 use Rattle.trial_second.proofs.times.relaxed.Given as goal
 
 abbrev pub invariant-loop-turn : goal.invariant-loop-turn

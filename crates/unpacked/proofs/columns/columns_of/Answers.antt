@@ -1,11 +1,10 @@
 -- `unpacked::columns::columns_of` meets its contract: `last` has the last writers of all registers, and the columns of the
 -- instructions passed are filled. Assumes nothing.
-use mathlib.Core.Path.{◌≡◌, refl}
-use Prim.Native.Nat.{◌-◌, ◌≤◌}
+use mathlib.Core.Path.{refl}
 use native.Mathlib.Omega.{arith}
-use lib.ListN.{length, length-set}
-use Rattle.unpacked.proofs.LastWriters.{Writers, writers_none, writers_next}
-use Rattle.unpacked.proofs.BlockColumns.{ColumnsTo, columns_none, columns_more, columns_all}
+use lib.ListN.{length-set}
+use Rattle.unpacked.proofs.LastWriters.{writers_none, writers_next}
+use Rattle.unpacked.proofs.BlockColumns.{columns_none, columns_more, columns_all}
 use borrow.Author.Rules.{rules}
 use Rattle.unpacked.proofs.columns.columns_of.Goals as goal
 

@@ -1,11 +1,9 @@
 -- `unpacked::columns::columns_of` meets its contract: `last` has the last writers of all registers, and the columns of the
-use mathlib.Core.Path.{◌≡◌, refl}
-use Prim.Native.Nat.{◌-◌, ◌≤◌}
-use native.Mathlib.Omega.{arith}
-use lib.ListN.{length, length-set}
-use Rattle.unpacked.proofs.LastWriters.{Writers, writers_none, writers_next}
-use Rattle.unpacked.proofs.BlockColumns.{ColumnsTo, columns_none, columns_more, columns_all}
-use borrow.Author.Rules.{rules}
+use mathlib.Core.Path.{◌≡◌}
+use Prim.Native.Nat.{◌≤◌}
+use lib.ListN.{length}
+use Rattle.unpacked.proofs.LastWriters.{Writers}
+use Rattle.unpacked.proofs.BlockColumns.{ColumnsTo}
 use Rattle.unpacked.proofs.columns.columns_of.Given as goal
 
 abbrev pub invariant-loop-j : goal.invariant-loop-j

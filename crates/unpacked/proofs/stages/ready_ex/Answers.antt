@@ -1,7 +1,6 @@
 -- `unpacked::stages::ready_ex` meets its contract. Assumes nothing.
 use native.Mathlib.Omega.{arith}
 use Rattle.unpacked.specs.inside.ReadyByStage.{ready_ex}
-use borrow.Author.Rules.{rules}
 use Rattle.unpacked.proofs.stages.ready_ex.Goals as goal
 
 pub returns : goal.returns

@@ -1,7 +1,6 @@
 -- `unpacked::stages::ready_if` meets its contract. Assumes nothing.
 use native.Mathlib.Omega.{arith}
 use Rattle.unpacked.specs.inside.ReadyByStage.{ready_if}
-use borrow.Author.Rules.{rules}
 use Rattle.unpacked.proofs.stages.ready_if.Goals as goal
 
 pub returns : goal.returns
