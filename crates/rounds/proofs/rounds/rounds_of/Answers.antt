@@ -84,7 +84,7 @@ loop-h-preserved c =
     let T = c.round_into.ensures in
     let K = c.keep_rows.ensures in
     let F = c.first_apart-at.ensures in
-    let more = c.if-at-n.false in (
+    let more : c.first_apart-at.result ≡ x.h.n → ⊥ = omega arith in (
       T.long,
       K.table,
       omega (arith, t.invariant.2, fewer x.h x.u.now x.early.now late t.list t.count t.k _ W c.requires.1 T F some.b some.unpacked (t.invariant.3 some.b some.unpacked) more _ _ K),
@@ -99,8 +99,9 @@ returns c =
     let W : Within x.h x.u.now = within some.b x.h x.u.now some.unpacked in
     let late = c.round_into.new.s in
     let T = c.round_into.ensures in
+    let last : c.first_apart-at.result ≡ x.h.n = omega arith in
     record {
       long = T.long;
       table = t.invariant.1;
-      last = λ b U. over x.h x.u.now x.early.now late t.list t.count t.k _ W c.requires.1 T c.first_apart-at.ensures b U (t.invariant.3 b U) c.if-at-n.true;
+      last = λ b U. over x.h x.u.now x.early.now late t.list t.count t.k _ W c.requires.1 T c.first_apart-at.ensures b U (t.invariant.3 b U) last;
     }
