@@ -82,7 +82,8 @@ fn choose(c: usize, m: usize, rows: &[u8; 240], x: &[u16; 512]) -> Choice
 {
     let r = ready_of(c, rows, x);
     let e = end_of(c, rows, x);
-    if r <= e {
+    let ready = r <= e;
+    if ready {
         return Choice { at: c, start: e };
     }
     scan(c, m, r, rows, x)

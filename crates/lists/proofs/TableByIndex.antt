@@ -54,6 +54,6 @@ store_more l i v d f h a e =
     (λ j q. get_or-set_other l i j v d (λ x. omega arith) ∙ a j q)
     (get_or-set_same l i v d h ∙ e)
 
--- the length of an array of structs, from what owning it tells: for `search (length-mapped, needs)`
+-- the length of an array of structs, from what owning it tells: for `search (length_mapped, rules)`
 pub length_mapped : (X Y : Type 0) (f : X → Y) (l : List X) (n : ℕ) → length (map f l) ≡ n → length l ≡ n
 length_mapped X Y f l n e = sym (length-map l f) ∙ e

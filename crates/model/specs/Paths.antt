@@ -1,5 +1,5 @@
 -- "Nodes and edges", its end: paths, and which EX nodes contend. What is computed is tied to what is said by four theorems in
--- proofs/Contention: reached-path, path-reached, contending-contends, contends-contending.
+-- proofs/Contention: reached_path, path_reached, contending_contends, contends_contending.
 use Rattle.std.specs.Prelude.{ℕ, ◌<◌, ◌≡◌, Bool, false, not, ◌&&◌, ◌||◌, List, [], ◌++◌, length, get_or, eqb}
 use Rattle.lists.specs.Lists.{In, tab, numbers_where, in_order}
 use Rattle.lists.specs.Sums.{sum, any}
@@ -20,7 +20,7 @@ pub data Path (b : Block) : ℕ → ℕ → Type 0 where
   edge : {u v : ℕ} → Edge b u v → Path b u v
   on : {u x v : ℕ} → Path b u x → Edge b x v → Path b u v
 
--- the same computed in node order: of each node, whether a path leads to it from u (reached-path, path-reached)
+-- the same computed in node order: of each node, whether a path leads to it from u (reached_path, path_reached)
 unfoldable pub reached : Block → ℕ → List Bool
 reached b u = in_order (λ before v. any (λ p. eqb p u || get_or before p false) (edges_into b v)) (nodes b)
 
@@ -45,7 +45,7 @@ unfoldable pub paths : Block → Pairs
 paths b = tab b.n (λ i. let r = reached b (node EX i) in tab b.n (λ j. get_or r (node EX j) false))
 
 -- "Two EX nodes contend if their kinds are equal and no path leads from one to the other.": those of instructions i and j.
--- "distance below W, then follows": contend-near
+-- "distance below W, then follows": contend_near
 pub record Contends (b : Block) (i j : ℕ) : Type 0 where
   -- both are instructions of the block, and they are two
   pub first : i < b.n
@@ -59,6 +59,6 @@ pub record Contends (b : Block) (i j : ℕ) : Type 0 where
 unfoldable pub contend : Block → Pairs → ℕ → ℕ → Bool
 contend b m i j = not (eqb i j) && eqb (entry b i).kind (entry b j).kind && not (has m i j) && not (has m j i)
 
--- the contending pairs: those of which Contends holds (contending-contends, contends-contending)
+-- the contending pairs: those of which Contends holds (contending_contends, contends_contending)
 unfoldable pub contending : Block → Pairs
 contending b = let m = paths b in pairs b.n (contend b m)

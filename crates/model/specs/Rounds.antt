@@ -75,7 +75,7 @@ unfoldable pub pair_count : Block → ℕ
 pair_count b = count b.n (has (contending b))
 
 -- the rounds, the set being "empty at first". pairs + 1 of them are allowed, and the last finds no new pair
--- (windows-settled)
+-- (windows_settled)
 unfoldable pub windows : Block → Windows
 windows b = let con = contending b in rounds_from (count b.n (has con) + 1) b con 1 []
 

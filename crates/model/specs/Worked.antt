@@ -1,4 +1,4 @@
--- "Blocks worked by hand": the eleven results marked P. That each is the one printed is worked-by-hand in proofs/WorkedResults.
+-- "Blocks worked by hand": the eleven results marked P. That each is the one printed is worked_by_hand in proofs/WorkedResults.
 use Rattle.std.specs.Prelude.{ℕ, ◌-◌, List, [], ◌∷◌, ◌++◌}
 use Rattle.record.specs.declared.Block.{Block}
 use Rattle.model.specs.Nodes.{EX, CM, node, highest, chosen}

@@ -65,6 +65,7 @@ pub fn header_fault(s: &[u8]) -> usize
     28
 }
 
+#[tactic(auto, unfolding(crate::specs::Rules::kind))]
 fn is_kind(k: u8) -> bool
     ensures { result ≡ kind k }
 {
@@ -74,6 +75,7 @@ fn is_kind(k: u8) -> bool
     }
 }
 
+#[tactic(auto, unfolding(crate::specs::Rules::register))]
 fn is_register(r: u8) -> bool
     ensures { result ≡ register r }
 {

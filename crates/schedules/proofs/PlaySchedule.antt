@@ -2,7 +2,7 @@
 -- where it has not started. A play stops where all have started, or after the cycles that it is allowed. Assumes nothing.
 --
 -- Why: before cycle 0 nothing has started, and there is nothing to claim. Each cycle takes a schedule to a schedule
--- (next-sched, turns_next). Where all have started, the cycle number of the state no longer matters, and the starts alone are
+-- (next_sched, turns_next). Where all have started, the cycle number of the state no longer matters, and the starts alone are
 -- a schedule at every later time.
 use Prim.Native.Nat.{ℕ, zero, suc, ◌+◌, ◌≤◌, ◌<◌}
 use mathlib.Core.Path.{◌≡◌, refl, sym, ap}

@@ -123,7 +123,7 @@ steps_accepted = stepping-accepted
 pub rounds_most : (b : Block) → round_count b ≤ pair_count b + 1
 rounds_most = settled-most
 
--- no number of the window table; that this is at most 30,780 is in bound-limit
+-- no number of the window table; that this is at most 30,780 is in bound_limit
 pub times_limit : (b : Block) → Whole b → AcceptedBlock b → (k : ℕ) → k < window_numbers b → get_or (window_table b) k 0 ≤ cycles_each * b.n
 times_limit b whole accepted = table_few b accepted (λ i. (whole.each i).hi)
 

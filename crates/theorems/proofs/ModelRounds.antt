@@ -180,8 +180,8 @@ module _ (b : Block) (known : Pairs) where
     done v = ready_done b A (lowest b) (lowest_some b A) (highest b) late v (ready b (highest b) late v) (omega arith)
 
     -- A ROUND OF THE MODEL IS A ROUND
-    pub model-round : Round (G b A) (start (earliest b)) (Parted known) delays delays (λ v. R b late v) (start late) (λ v. start late v + highest b v)
-    model-round =
+    pub model_round : Round (G b A) (start (earliest b)) (Parted known) delays delays (λ v. R b late v) (start late) (λ v. start late v + highest b v)
+    model_round =
         record {
           cover = cover;
           later = λ v u lv lu d o e. d;

@@ -23,7 +23,7 @@ use Rattle.schedules.specs.inside.RoundInequalities.{Separates, Bounded}
 use Rattle.schedules.proofs.RoundsBound.{bounded}
 use Rattle.theorems.specs.RoundByRound.{known_at, late_at, apart_by}
 use Rattle.theorems.proofs.KnownPairs.{found, none_first, found_apart, kept_or_found, last_round}
-use Rattle.theorems.proofs.ModelRounds.{G, earliest_early, ex_node, delays, Parted, model-round}
+use Rattle.theorems.proofs.ModelRounds.{G, earliest_early, ex_node, delays, Parted, model_round}
 
 module _ (b : Block) (A : Ranges b) (lat : ℕ → ℕ) (F : Fits (G b A) lat) (H : ℕ) (s : ℕ → ℕ) (P : Sched (G b A) lat H s) where
   -- the latest starts t, with the ready times and finishes that they give, bound it
@@ -43,7 +43,7 @@ module _ (b : Block) (A : Ranges b) (lat : ℕ → ℕ) (F : Fits (G b A) lat) (
     bounds =
         bounded (G b A) lat F H s P (start (earliest b)) (earliest_early b A) (Parted (known_at b k)) S
         (delays b (known_at b k)) (delays b (known_at b k)) (λ v. R b late v) (start late) (λ v. start late v + highest b v)
-        (model-round b (known_at b k) A)
+        (model_round b (known_at b k) A)
 
     by_finish : (v : ℕ) → v < nodes b → s v + lat v ≤ finish (highest b) late v
     unfolding finish

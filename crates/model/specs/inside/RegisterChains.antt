@@ -1,5 +1,5 @@
 -- Chains of steps from EX to EX, as a table. Only promises of inside functions use it; that contention comes to this is in
--- proofs/Chains (paths-chains, contending-chains).
+-- proofs/Chains (paths_chains, contending_chains).
 use Rattle.std.specs.Prelude.{ℕ, ◌||◌, List, eqb}
 use Rattle.lists.specs.Lists.{tab, in_order}
 use Rattle.lists.specs.Sums.{any}
