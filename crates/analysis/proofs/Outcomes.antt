@@ -5,10 +5,9 @@ use mathlib.Core.List.{List, ◌++◌}
 use lib.ListN.{length, drop}
 use lib.Dec.{eqb, leb}
 use borrow.Author.Tests.{eq-eqb, ne_eqb, eqb-true, le-leb, lt-leb, leb-true}
-use Rattle.record.specs.Refusals.{meaning, verdict, block_verdict}
+use Rattle.std.specs.Prelude.{Ok as Accepted, Err as Refused}
+use Rattle.record.specs.Refusals.{Answer, meaning, verdict, block_verdict}
 use Rattle.record.specs.Promises.{Whole}
-use Rattle.record.specs.declared.Answer.{Answer}
-use Rattle.record.specs.declared.Answer.TheVariants.{Accepted, Refused}
 use Rattle.record.specs.declared.Block.{Block}
 use Rattle.record.specs.declared.Reason.{Reason}
 use Rattle.record.specs.declared.Reason.TheVariants.{Output}
@@ -30,7 +29,7 @@ module _ (b : Block) (o : List ℕ) (w : Whole b) where
   pub analyse_output : block_verdict b ≡ (0, 0) → (length o ≡ 512 → ⊥) → Analyses b o (Refused Output) o
   analyse_output z h = analysed_so _ o (put_output b _ _ o z (ne_eqb (length o) 512 h))
 
-  pub analyse_done : block_verdict b ≡ (0, 0) → length o ≡ 512 → (p : List ℕ) → p ≡ result_record b → Analyses b o Accepted p
+  pub analyse_done : block_verdict b ≡ (0, 0) → length o ≡ 512 → (p : List ℕ) → p ≡ result_record b → Analyses b o (Accepted tt) p
   analyse_done z h p e = analysed_so _ p (put_done b _ _ o z (eq-eqb (length o) 512 h) p e)
 
 module _ (b : Block) (o : List ℕ) where
@@ -55,7 +54,7 @@ module _ (b : Block) (o : List ℕ) (w : Whole b) where
   pub windows_output : block_verdict b ≡ (0, 0) → length o < 30 * b.n → WritesWindows b o (Refused Output) o
   windows_output z h = tabled_so _ o (put_output b _ _ o z (lt-leb (30 * b.n) (length o) h))
 
-  pub windows_done : block_verdict b ≡ (0, 0) → 30 * b.n ≤ length o → (p : List ℕ) → p ≡ window_table b ++ drop (30 * b.n) o → WritesWindows b o Accepted p
+  pub windows_done : block_verdict b ≡ (0, 0) → 30 * b.n ≤ length o → (p : List ℕ) → p ≡ window_table b ++ drop (30 * b.n) o → WritesWindows b o (Accepted tt) p
   windows_done z h p e = tabled_so _ p (put_done b _ _ o z (le-leb (30 * b.n) (length o) h) p e)
 
 module _ (b : Block) (o : List ℕ) where

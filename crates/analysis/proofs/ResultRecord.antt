@@ -22,21 +22,22 @@ use Rattle.model.specs.Rounds.{apart_count, bound, earliest, pair_count, round_c
 use Rattle.model.proofs.Latencies.{highest_ex, highest_else}
 use Rattle.model.proofs.Limits.{round_limit}
 use Rattle.model.proofs.RoundsEnd.{windows_settled}
+use Rattle.unpacked.specs.declared.Instruction.{Instruction}
 use Rattle.unpacked.specs.declared.Shape.{Shape}
-use Rattle.unpacked.specs.inside.UnpackedBlock.{Columns, Unpacked}
+use Rattle.unpacked.specs.inside.UnpackedBlock.{Instructions, Unpacked}
 use Rattle.pairs.specs.inside.PairRows.{finish_ex}
 use Rattle.rounds.specs.inside.BlockTimes.{TimesOf}
 use Rattle.analysis.specs.Result.{four_of, head_of, result_record, result_body, result_entries, result_head, result_times, summary_of}
 use Rattle.analysis.specs.declared.Summary.{Summary}
 use Rattle.analysis.specs.inside.OutputSteps.{body_from, result_from, times_at}
 
-pub length_times : (n : ℕ) (u early late : List ℕ) (i : ℕ) → length (times_at n u early late i) ≡ 8
+pub length_times : (n : ℕ) (u : List Instruction) (early late : List ℕ) (i : ℕ) → length (times_at n u early late i) ≡ 8
 unfolding times_at four_of bytes
 length_times n u early late i = by_test (ltb i n) (λ t. rw t refl) (λ t. rw t refl)
 
 -- ---- what the lists make is the block's
 module _
-    (b : Block) (h : Shape) (u early late : List ℕ) (U : Unpacked b h u)
+    (b : Block) (h : Shape) (u : List Instruction) (early late : List ℕ) (U : Unpacked b h u)
     (es : TimesOf b (earliest b) early) (ls : TimesOf b (windows b).late late) where
   A : Ranges b
   A = ranges b U.accepted
@@ -66,7 +67,7 @@ module _
   summary_is s (n, o, f, k) (r, p, a) = rw (n, o, f ∙ bound_is, k, r, p, a) refl
 
 module _
-    (b : Block) (u early late : List ℕ) (z : block_verdict b ≡ (0, 0)) (C : Columns b u)
+    (b : Block) (u : List Instruction) (early late : List ℕ) (z : block_verdict b ≡ (0, 0)) (C : Instructions b u)
     (es : TimesOf b (earliest b) early) (ls : TimesOf b (windows b).late late) where
   entries_is : joined 60 (times_at b.n u early late) ≡ result_entries b
   unfolding times_at result_entries result_times finish_ex finish
@@ -93,7 +94,7 @@ module _
   result_is = rw entries_is refl
 
 -- ---- the output piece by piece
-module _ (s : Summary) (u early late o : List ℕ) where
+module _ (s : Summary) (u : List Instruction) (early late o : List ℕ) where
   length_head : length (head_of s) ≡ 28
   unfolding head_of bytes
   length_head = refl

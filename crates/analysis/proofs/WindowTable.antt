@@ -21,21 +21,22 @@ use Rattle.model.proofs.Latencies.{highest_if, highest_else}
 use Rattle.model.proofs.Limits.{earliest_limit, ready_limit_lem, round_limit}
 use Rattle.model.proofs.RoundsEnd.{windows_settled}
 use Rattle.model.proofs.TimesInOrder.{earliest_is, ready_looks, round_is}
-use Rattle.unpacked.specs.declared.Shape.{Shape}
+use Rattle.unpacked.specs.declared.Instruction.{Instruction}
+use Rattle.unpacked.specs.declared.unpacked_block.UnpackedBlock.{UnpackedBlock}
 use Rattle.unpacked.specs.inside.UnpackedBlock.{Unpacked, high_of, low_of}
 use Rattle.unpacked.proofs.ReadyTimes.{ready_ex_lem}
 use Rattle.rounds.specs.inside.BlockTimes.{TimesOf}
 use Rattle.analysis.specs.inside.OutputSteps.{early_three, late_three, node_into, ready_at, table_from}
 
 -- its six numbers
-abbrev pub six_of : List ℕ → List ℕ → List ℕ → ℕ → List ℕ
+abbrev pub six_of : List Instruction → List ℕ → List ℕ → ℕ → List ℕ
 six_of u early late v = early_three u early v ++ late_three u late v
 
 -- ---- the table filled node by node, and the rest of o
-abbrev pub table_in : List ℕ → List ℕ → List ℕ → List ℕ → ℕ → List ℕ
+abbrev pub table_in : List Instruction → List ℕ → List ℕ → List ℕ → ℕ → List ℕ
 table_in u early late o v = pieces_in 6 0 (six_of u early late) o v
 
-module _ (u early late o : List ℕ) where
+module _ (u : List Instruction) (early late o : List ℕ) where
   pub table_none : o ≡ table_in u early late o 0
   table_none = pieces_none 6 0 _ o
 
@@ -50,16 +51,20 @@ module _ (u early late o : List ℕ) where
       ∙ pieces_more 6 0 (six_of u early late) o (λ w. refl) v (0 + 6 * v) refl (omega arith))
 
 -- all nodes of n instructions
-pub table_all : (h : Shape) (u early late o : List ℕ) (v : ℕ) → v ≡ 5 * h.n → table_in u early late o v ≡ table_from h u early late o
+pub table_all : (block : UnpackedBlock) (early late o : List ℕ) (v : ℕ) → v ≡ 5 * block.shape.n
+    → table_in block.instructions early late o v ≡ table_from block early late o
 unfolding table_from
-table_all h u early late o v e =
-    let d : 6 * (5 * h.n) ≡ 30 * h.n = omega arith in
+table_all block early late o v e =
+    let d : 6 * (5 * block.shape.n) ≡ 30 * block.shape.n = omega arith in
     rw (e, zero-add, d) refl
 
 -- ---- what the lists make is the block's
 module _
-    (b : Block) (h : Shape) (u early late : List ℕ) (U : Unpacked b h u)
+    (b : Block) (block : UnpackedBlock) (early late : List ℕ) (U : Unpacked b block.shape block.instructions)
     (es : TimesOf b (earliest b) early) (ls : TimesOf b (windows b).late late) where
+  abbrev u : List Instruction
+  u = block.instructions
+
   A : Ranges b
   A = ranges b U.accepted
 
@@ -77,13 +82,13 @@ module _
   unfolding finish lowest
   earliest_finish v l =
       let m = earliest_limit b A cap v l in
-      rw (es.at v l, U.columns.low (instruction v) (omega arith)) (omega (arith, m, few v l))
+      rw (es.at v l, U.instructions.low (instruction v) (omega arith)) (omega (arith, m, few v l))
 
   latest_finish : (v : ℕ) → v < nodes b → (start late v + latency fetch (high_of u (instruction v)) v) % 65536 ≡ finish (highest b) (windows b).late v
   unfolding finish highest
   latest_finish v l =
       let m = round_limit b A cap (contending b) (windows b).known v l in
-      rw (ls.at v l, U.columns.high (instruction v) (omega arith), last) (omega (arith, m, few v l))
+      rw (ls.at v l, U.instructions.high (instruction v) (omega arith), last) (omega (arith, m, few v l))
 
   -- off EX the latest start is the latest ready time
   ready_off : (v : ℕ) → v < nodes b → is_ex v ≡ false → start (windows b).late v ≡ ready b (highest b) (windows b).late v
@@ -98,7 +103,7 @@ module _
       (λ t.
       let ex : stage v ≡ EX = eqb-true (stage v) EX t in
       let e : node EX i ≡ v = omega arith in
-      rw (t, U.columns.first i i_below_n, U.columns.second i i_below_n)
+      rw (t, U.instructions.first i i_below_n, U.instructions.second i i_below_n)
       (sym (ready_ex_lem b (highest b) (highest_if b) (highest_else b) late i)
       ∙ rw e (ready_looks b A (highest b) late (windows b).late v (λ w o. ls.at w (omega arith)))))
       (λ t.
@@ -118,6 +123,6 @@ module _
       (ap (λ (x : ℕ). (x ∷ start (earliest b) v ∷ finish (lowest b) (earliest b) v ∷ []) ++ three_times b (highest b) (windows b).late v)
       (earliest_is b A v l))
 
-  pub table_is : (o : List ℕ) → table_from h u early late o ≡ window_table b ++ drop (window_numbers b) o
+  pub table_is : (o : List ℕ) → table_from block early late o ≡ window_table b ++ drop (window_numbers b) o
   unfolding window_table table_from
   table_is o = rw (U.shape.n, joined_ext (six_of u early late) _ (nodes b) six_is) refl

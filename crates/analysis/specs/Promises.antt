@@ -1,8 +1,7 @@
 -- "How much each promise has to say": what each operation promises of its outcome.
 use Rattle.std.specs.Prelude.{◌≡◌, List, ℕ}
-use Rattle.record.specs.Refusals.{meaning, verdict}
+use Rattle.record.specs.Refusals.{Answer, meaning, verdict}
 use Rattle.record.specs.Promises.{Whole}
-use Rattle.record.specs.declared.Answer.{Answer}
 use Rattle.record.specs.declared.Block.{Block}
 use Rattle.analysis.specs.Result.{analyse_tests, window_tests, analysed, tabled}
 

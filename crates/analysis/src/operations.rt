@@ -1,10 +1,10 @@
 // The two operations: tests 4, 5 and 6, then the result record or the window table; and what an analysis says beside the
-// windows. A block is unpacked once, and its columns go on from there.
+// windows. A block is unpacked once, and goes on from there.
 ghost use Rattle.std.specs.Prelude.{◌≡◌, ◌++◌, ◌+◌, ◌-◌, ◌*◌, ◌≤◌, ◌<◌, length, drop};
 ghost use Rattle.record.specs.Refusals.{block_verdict};
 ghost use Rattle.model.specs.Cycles.{start};
 ghost use Rattle.model.specs.Rounds.{window_numbers, window_table};
-ghost use Rattle.unpacked.specs.inside.UnpackedBlock.{Columns};
+ghost use Rattle.unpacked.specs.inside.UnpackedBlock.{Unpacked};
 ghost use Rattle.rounds.specs.inside.BlockTimes.{Unpacks};
 ghost use Rattle.analysis.specs.Result.{result_record, summary_of};
 ghost use Rattle.analysis.specs.Promises.{Analyses, WritesWindows};
@@ -12,17 +12,24 @@ ghost use Rattle.analysis.specs.inside.OutputSteps.{Analysed, Summarised};
 
 use crate::Summary;
 use crate::outputs::{put_result, put_table};
-use record::{Answer, Block, Reason};
+use pairs::Times;
+use record::{Block, Reason};
 use rounds::Counts;
-use unpacked::Shape;
+use unpacked::UnpackedBlock;
+
+// The times before they are worked out.
+const NO_TIMES: Times = Times {
+    early: [0; 300],
+    late: [0; 300],
+};
 
 // The earliest and the latest starts, and the counts.
-fn times_into(h: Shape, u: &[u8; 300], early: &mut [u16; 300], late: &mut [u16; 300]) -> Counts
-    requires { Unpacks h u.now × (length early.old ≡ 300) × (length late.old ≡ 300) }
-    ensures { Analysed h u.now early.new late.new result }
+fn times_into(v: &UnpackedBlock, times: &mut Times) -> Counts
+    requires { Unpacks v.now }
+    ensures { Analysed v.now times.new result }
 {
-    rounds::earliest_into(h, u, early);
-    rounds::refine(h, u, early, late)
+    rounds::earliest_into(v, &mut times.early);
+    rounds::refine(v, times)
 }
 
 // The bound: the latest finish of the last node of n instructions.
@@ -50,14 +57,13 @@ fn summary_from(n: u8, origin: u8, number: u32, bound: u16, counts: Counts) -> S
     }
 }
 
-// The times of an accepted block whose columns are u, and what its analysis says beside its windows.
-fn summary_into(b: Block, u: &[u8; 300], early: &mut [u16; 300], late: &mut [u16; 300]) -> Summary
-    requires { (block_verdict b ≡ (0, 0)) × Columns b u.now × (length early.old ≡ 300) × (length late.old ≡ 300) }
-    ensures { Summarised b early.new late.new result }
+// The times of an accepted block that was unpacked, and what its analysis says beside its windows.
+fn summary_into(b: Block, v: &UnpackedBlock, times: &mut Times) -> Summary
+    requires { Unpacked b v.now.shape v.now.instructions }
+    ensures { Summarised b times.new result }
 {
-    let h = unpacked::shape_of(b);
-    let counts = times_into(h, u, early, late);
-    let bound = bound_of(h.n, late);
+    let counts = times_into(v, times);
+    let bound = bound_of(v.shape.n, &times.late);
     summary_from(b.n, b.origin, b.number, bound, counts)
 }
 
@@ -66,65 +72,52 @@ pub fn summary_of(b: Block) -> Summary
     requires { block_verdict b ≡ (0, 0) }
     ensures { result ≡ summary_of b }
 {
-    let u = unpacked::columns_of(b);
-    let mut early = [0u16; 300];
-    let mut late = [0u16; 300];
-    summary_into(b, &u, &mut early, &mut late)
+    let v = unpacked::unpacked_of(b);
+    let mut times = NO_TIMES;
+    summary_into(b, &v, &mut times)
 }
 
 fn result_into(b: Block, out: &mut [u8])
     requires { (block_verdict b ≡ (0, 0)) × (length out.old ≡ 512) }
     ensures { out.new ≡ result_record b }
 {
-    let u = unpacked::columns_of(b);
-    let mut early = [0u16; 300];
-    let mut late = [0u16; 300];
-    let s = summary_into(b, &u, &mut early, &mut late);
-    put_result(s, &u, &early, &late, out);
+    let v = unpacked::unpacked_of(b);
+    let mut times = NO_TIMES;
+    let s = summary_into(b, &v, &mut times);
+    put_result(s, &v.instructions, &times, out);
 }
 
 fn table_into(b: Block, out: &mut [u16])
     requires { (block_verdict b ≡ (0, 0)) × (window_numbers b ≤ length out.old) }
     ensures { out.new ≡ window_table b ++ drop (window_numbers b) out.old }
 {
-    let h = unpacked::shape_of(b);
-    let u = unpacked::columns_of(b);
-    let mut early = [0u16; 300];
-    let mut late = [0u16; 300];
-    times_into(h, &u, &mut early, &mut late);
-    put_table(h, &u, &early, &late, out);
+    let v = unpacked::unpacked_of(b);
+    let mut times = NO_TIMES;
+    times_into(&v, &mut times);
+    put_table(&v, &times, out);
 }
 
 // Writes the result record of a block to an output of 512 bytes.
-pub fn analyse(b: Block, out: &mut [u8]) -> Answer
+pub fn analyse(b: Block, out: &mut [u8]) -> Result<(), Reason>
     ensures { Analyses b out.old result out.new }
 {
-    let answer = writer::block_answer(b);
-    match answer {
-        Answer::Refused(_) => answer,
-        Answer::Accepted => {
-            if out.len() != 512 {
-                return Answer::Refused(Reason::Output);
-            }
-            result_into(b, out);
-            Answer::Accepted
-        }
+    writer::block_answer(b)?;
+    if out.len() != 512 {
+        return Err(Reason::Output);
     }
+    result_into(b, out);
+    Ok(())
 }
 
 // Writes the window table of a block to an output of at least 30 n numbers.
-pub fn windows(b: Block, out: &mut [u16]) -> Answer
+pub fn windows(b: Block, out: &mut [u16]) -> Result<(), Reason>
     ensures { WritesWindows b out.old result out.new }
 {
-    let answer = writer::block_answer(b);
-    match answer {
-        Answer::Refused(_) => answer,
-        Answer::Accepted => {
-            if out.len() < 30 * (b.n as usize) {
-                return Answer::Refused(Reason::Output);
-            }
-            table_into(b, out);
-            Answer::Accepted
-        }
+    writer::block_answer(b)?;
+    let need = 30 * usize::from(b.n);
+    if out.len() < need {
+        return Err(Reason::Output);
     }
+    table_into(b, out);
+    Ok(())
 }

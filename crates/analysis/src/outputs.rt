@@ -1,68 +1,32 @@
 // The result record and the window table.
-ghost use Rattle.std.specs.Prelude.{◌≡◌, [], ◌∷◌, ◌+◌, ◌*◌, ◌/◌, ◌%◌, ◌≤◌, ◌<◌, length, eqb};
+ghost use Rattle.std.specs.Prelude.{◌≡◌, [], ◌∷◌, ◌+◌, ◌*◌, ◌≤◌, ◌<◌, length, eqb};
 ghost use Rattle.lists.specs.Lists.{pick, joined, put};
 ghost use Rattle.model.specs.Nodes.{EX, node};
 ghost use Rattle.model.specs.Cycles.{start};
 ghost use Rattle.model.specs.Rounds.{window_place};
 ghost use Rattle.unpacked.specs.inside.ReadyByStage.{ready_ex};
+ghost use Rattle.unpacked.specs.inside.StageNumbers.{number};
 ghost use Rattle.analysis.specs.Result.{head_of, four_of};
-ghost use Rattle.analysis.specs.inside.OutputSteps.{times_at, result_from, node_into, table_from, NodeRoom, TableRoom};
+ghost use Rattle.analysis.specs.inside.OutputSteps.{times_at, result_from, node_into, table_from, NodeRoom};
 
 use crate::Summary;
-use pairs::finish_ex;
-use unpacked::{CM, EX, FETCH, FIRSTS, HIGHS, LOWS, SECONDS, Shape, latency_of, time, wide};
-
-fn low(x: u32) -> u8
-    ensures { result ≡ x % 256 }
-{
-    (x % 256) as u8
-}
-
-fn high(x: u32) -> u8
-    ensures { result ≡ x / 256 % 256 }
-{
-    (x / 256 % 256) as u8
-}
+use pairs::{Times, finish_ex};
+use unpacked::{CM, EX, FETCH, Instruction, Stage, UnpackedBlock, latency_of, stage_of, time};
 
 // The result record's first 28 bytes.
 fn result_head(s: Summary) -> [u8; 28]
     ensures { result ≡ head_of s }
 {
-    let bound = s.bound as u32;
-    let rounds = s.rounds as u32;
-    let pairs = s.pairs as u32;
-    let apart = s.apart as u32;
-    let upper = s.number / 256 / 256;
-    [
-        b'R',
-        b'E',
-        b'S',
-        b'1',
-        s.n,
-        s.origin,
-        low(bound),
-        high(bound),
-        low(s.number),
-        high(s.number),
-        low(upper),
-        high(upper),
-        low(rounds),
-        high(rounds),
-        low(pairs),
-        high(pairs),
-        low(apart),
-        high(apart),
-        0,
-        0,
-        0,
-        0,
-        0,
-        0,
-        0,
-        0,
-        0,
-        0,
-    ]
+    let mut head = [0; 28];
+    head[..4].copy_from_slice(b"RES1");
+    head[4] = s.n;
+    head[5] = s.origin;
+    head[6..8].copy_from_slice(&s.bound.to_le_bytes());
+    head[8..12].copy_from_slice(&s.number.to_le_bytes());
+    head[12..14].copy_from_slice(&s.rounds.to_le_bytes());
+    head[14..16].copy_from_slice(&s.pairs.to_le_bytes());
+    head[16..18].copy_from_slice(&s.apart.to_le_bytes());
+    head
 }
 
 // Four 16-bit numbers.
@@ -70,68 +34,61 @@ fn put_four(x: u32, y: u32, z: u32, u: u32, at: usize, out: &mut [u8])
     requires { (at + 8 ≤ length out.old) × (at ≤ 600) }
     ensures { out.new ≡ put out.old at (four_of x y z u) }
 {
-    out[at] = low(x);
-    out[at + 1] = high(x);
-    out[at + 2] = low(y);
-    out[at + 3] = high(y);
-    out[at + 4] = low(z);
-    out[at + 5] = high(z);
-    out[at + 6] = low(u);
-    out[at + 7] = high(u);
+    let x = time(x).to_le_bytes();
+    let y = time(y).to_le_bytes();
+    let z = time(z).to_le_bytes();
+    let u = time(u).to_le_bytes();
+    let four = [x[0], x[1], y[0], y[1], z[0], z[1], u[0], u[1]];
+    out[at..at + 8].copy_from_slice(&four);
 }
 
 // The four numbers of instruction i, zeros from n on.
-fn put_times(
-    n: usize,
-    u: &[u8; 300],
-    early: &[u16; 300],
-    late: &[u16; 300],
-    i: usize,
-    out: &mut [u8],
-)
+fn put_times(n: usize, u: &[Instruction; 60], times: &Times, i: usize, out: &mut [u8])
     requires { (i < 60) × (length out.old ≡ 512) }
-    ensures { out.new ≡ put out.old (28 + 8 * i) (times_at n u.now early.now late.now i) }
+    ensures { out.new ≡ put out.old (28 + 8 * i) (times_at n u.now times.now.early times.now.late i) }
 {
     let at = 28 + 8 * i;
     if i < n {
-        let x = wide(early[5 * i + EX]);
-        let y = wide(late[5 * i + EX]);
-        let z = wide(late[5 * i + CM]) + 1;
-        put_four(x, y, finish_ex(u, late, i), z, at, out);
+        let x = u32::from(times.early[5 * i + EX]);
+        let y = u32::from(times.late[5 * i + EX]);
+        let z = u32::from(times.late[5 * i + CM]) + 1;
+        put_four(x, y, finish_ex(u, &times.late, i), z, at, out);
     } else {
         put_four(0, 0, 0, 0, at, out);
     }
 }
 
 // The numbers of all 60 entries.
-fn put_all_times(n: usize, u: &[u8; 300], early: &[u16; 300], late: &[u16; 300], out: &mut [u8])
+fn put_all_times(n: usize, u: &[Instruction; 60], times: &Times, out: &mut [u8])
     requires { length out.old ≡ 512 }
-    ensures { out.new ≡ put out.old 28 (joined 60 (times_at n u.now early.now late.now)) }
+    ensures { out.new ≡ put out.old 28 (joined 60 (times_at n u.now times.now.early times.now.late)) }
 {
     for i in 0..60 {
-        put_times(n, u, early, late, i, out);
+        put_times(n, u, times, i, out);
     }
 }
 
 // The result record of what an analysis says.
-pub fn put_result(s: Summary, u: &[u8; 300], early: &[u16; 300], late: &[u16; 300], out: &mut [u8])
+pub fn put_result(s: Summary, u: &[Instruction; 60], times: &Times, out: &mut [u8])
     requires { length out.old ≡ 512 }
-    ensures { out.new ≡ result_from s u.now early.now late.now }
+    ensures { out.new ≡ result_from s u.now times.now.early times.now.late }
 {
     let head = result_head(s);
     writer::put_head(&head, out);
-    put_all_times(s.n as usize, u, early, late, out);
+    put_all_times(s.n as usize, u, times, out);
     record::seal(out);
 }
 
 // The latest ready time of stage g of instruction i: off EX it is the latest start.
-fn latest_ready(g: usize, x: u8, y: u8, late: &[u16; 300], i: usize) -> u32
-    requires { (g < 5) × (i < 60) × (x ≤ 60) × (y ≤ 60) }
-    ensures { (result ≡ pick (eqb g EX) (ready_ex x y late.now i) (start late.now (node g i))) × (result ≤ 65536) }
+fn latest_ready(g: Stage, x: u8, y: u8, late: &[u16; 300], i: usize) -> u32
+    requires { (i < 60) × (x ≤ 60) × (y ≤ 60) }
+    ensures { (result ≡ pick (eqb (number g) EX) (ready_ex x y late.now i) (start late.now (node (number g) i))) × (result ≤ 65536) }
 {
     match g {
-        EX => unpacked::ready_ex(x, y, late, i),
-        _ => wide(late[5 * i + g]),
+        Stage::Execute => unpacked::ready_ex(x, y, late, i),
+        Stage::Fetch | Stage::Decode | Stage::Write | Stage::Commit => {
+            u32::from(late[5 * i + g as usize])
+        }
     }
 }
 
@@ -143,7 +100,7 @@ fn window_place(v: usize, k: usize) -> usize
     6 * v + k
 }
 
-// Ready, start and finish of a node.
+// Ready, start and finish of a node, one by one: `copy_from_slice` makes the whole table a fifth slower.
 fn put_three(ready: u16, start: u16, finish: u16, at: usize, out: &mut [u16])
     requires { (at + 3 ≤ length out.old) × (at ≤ 2000) }
     ensures { out.new ≡ put out.old at (ready ∷ start ∷ finish ∷ []) }
@@ -154,28 +111,35 @@ fn put_three(ready: u16, start: u16, finish: u16, at: usize, out: &mut [u16])
 }
 
 // The six numbers of node v.
-fn put_node(v: usize, u: &[u8; 300], early: &[u16; 300], late: &[u16; 300], out: &mut [u16])
+fn put_node(v: usize, u: &[Instruction; 60], times: &Times, out: &mut [u16])
     requires { NodeRoom v u.now out.old }
-    ensures { out.new ≡ node_into v u.now early.now late.now out.old }
+    ensures { out.new ≡ node_into v u.now times.now.early times.now.late out.old }
 {
     let i = v / 5;
-    let g = v % 5;
-    let e = early[v];
-    let l = late[v];
-    let ready = latest_ready(g, u[FIRSTS + i], u[SECONDS + i], late, i);
-    let x = latency_of(g, FETCH, u[LOWS + i]);
-    let y = latency_of(g, FETCH, u[HIGHS + i]);
-    put_three(e, e, time(wide(e) + x), window_place(v, 0), out);
-    put_three(time(ready), l, time(wide(l) + y), window_place(v, 3), out);
+    let g = stage_of(v);
+    let this = u[i];
+    let e = times.early[v];
+    let l = times.late[v];
+    let ready = latest_ready(g, this.first, this.second, &times.late, i);
+    let x = latency_of(g as usize, FETCH, this.low);
+    let y = latency_of(g as usize, FETCH, this.high);
+    put_three(e, e, time(u32::from(e) + x), window_place(v, 0), out);
+    put_three(
+        time(ready),
+        l,
+        time(u32::from(l) + y),
+        window_place(v, 3),
+        out,
+    );
 }
 
 // The window table.
-pub fn put_table(h: Shape, u: &[u8; 300], early: &[u16; 300], late: &[u16; 300], out: &mut [u16])
-    requires { TableRoom h u.now out.old }
-    ensures { out.new ≡ table_from h u.now early.now late.now out.old }
+pub fn put_table(block: &UnpackedBlock, times: &Times, out: &mut [u16])
+    requires { 30 * block.now.shape.n ≤ length out.old }
+    ensures { out.new ≡ table_from block.now times.now.early times.now.late out.old }
 {
-    let end = 5 * h.n;
+    let end = 5 * block.shape.n;
     for v in 0..end {
-        put_node(v, u, early, late, out);
+        put_node(v, &block.instructions, times, out);
     }
 }

@@ -1,11 +1,9 @@
 pub mod NoteTimes
 pub mod PlayTimes
 pub mod StartsKept
-pub mod FourStores
 pub mod NotesDecoded
 pub mod SlotSums
 pub mod StartChosen
-pub mod UnitHeld
 pub mod NotesStarted
 pub mod NotesFirst
 pub mod RowWritten

@@ -1,39 +1,33 @@
--- The times of a stage in the notes: what stands so many places back, and what is kept or added where others change. Assumes
--- nothing.
+-- The times of a stage in the notes: what stands so many places back, and one more. Assumes nothing.
 use Prim.Native.Nat.{ℕ, ◌+◌, ◌-◌, ◌≤◌, ◌<◌}
 use mathlib.Core.Path.{◌≡◌, ◌∙◌}
 use mathlib.Core.List.{List}
 use native.Mathlib.Omega.{arith}
-use native.Mathlib.Decide.{dec_le}
-use lib.ListN.{get_or}
+use lib.ListN.{get_or, set, length-set}
+use lib.Seq.{get_or-set_same, get_or-set_other}
 use lib.Dec.{leb}
 use borrow.Author.Tests.{leb-true, leb-false}
+use borrow.Author.Count.{below_more}
 use Rattle.lists.specs.Lists.{pick}
 use Rattle.lists.proofs.Bools.{by_test}
 use Rattle.choices.specs.inside.PlayNotes.{Times}
 
-module _ (x : List ℕ) (o m : ℕ) (f : ℕ → ℕ) (L : Times x o m f) where
+module _ (y : List ℕ) (m : ℕ) (f : ℕ → ℕ) (L : Times y m f) where
   -- what stands k places before place i, 0 where there is nothing
-  pub times_back : (i k p : ℕ) → k ≤ 32 → (k ≤ i → i - k < m) → p ≡ o + 32 + i - k → get_or x p 0 ≡ pick (leb k i) (f (i - k)) 0
+  pub times_back : (i k p : ℕ) → k ≤ 32 → (k ≤ i → i - k < m) → p ≡ 32 + i - k → get_or y p 0 ≡ pick (leb k i) (f (i - k)) 0
   times_back i k p small h e =
       by_test (leb k i)
-      (λ t. let q : p ≡ o + 32 + (i - k) = omega (arith, leb-true k i t) in rw (t, q) (L.each (i - k) (h (leb-true k i t))))
-      (λ t.
-      let q : p ≡ o + (32 + i - k) = omega (arith, leb-false k i t) in
-      rw (t, q) (L.pad (32 + i - k) (omega (arith, leb-false k i t))))
+      (λ t. let q : p ≡ 32 + (i - k) = omega (arith, leb-true k i t) in rw (t, q) (L.each (i - k) (h (leb-true k i t))))
+      (λ t. rw t (L.pad p (omega (arith, leb-false k i t))))
 
-  -- a list that agrees with it so far has them
-  pub times_same : (x' : List ℕ) → ((p : ℕ) → o ≤ p → p < o + 32 + m → get_or x' p 0 ≡ get_or x p 0) → Times x' o m f
-  times_same x' h =
+  -- one more
+  pub times_more : (v : ℕ) → m < 60 → v ≡ f m → Times (set y (32 + m) v) (m + 1) f
+  times_more v n e =
       record {
-        pad = λ z l. h (o + z) (omega arith) (omega arith) ∙ L.pad z l;
-        each = λ i l. h (o + 32 + i) (omega arith) (omega arith) ∙ L.each i l;
+        long = length-set y (32 + m) v ∙ L.long;
+        pad = λ z l. get_or-set_other y (32 + m) z v 0 (λ w. omega arith) ∙ L.pad z l;
+        each =
+            below_more (λ i. get_or (set y (32 + m) v) (32 + i) 0 ≡ f i) m
+            (λ i l. get_or-set_other y (32 + m) (32 + i) v 0 (λ w. omega arith) ∙ L.each i l)
+            (get_or-set_same y (32 + m) v 0 (omega (arith, L.long)) ∙ e);
       }
-
-  -- and one more, where it has that
-  pub times_more : (x' : List ℕ) → ((p : ℕ) → o ≤ p → p < o + 32 + m → get_or x' p 0 ≡ get_or x p 0) → get_or x' (o + 32 + m) 0 ≡ f m → Times x' o (m + 1) f
-  times_more x' h e = record { pad = (times_same x' h).pad; each = λ i l. at_last i l (dec_le m i) }
-    where
-      at_last : (i : ℕ) → i < m + 1 → Dec (m ≤ i) → get_or x' (o + 32 + i) 0 ≡ f i
-      at_last i l (yes g) = let q : i ≡ m = omega arith in rw q e
-      at_last i l (no g) = h (o + 32 + i) (omega arith) (omega arith) ∙ L.each i (omega arith)

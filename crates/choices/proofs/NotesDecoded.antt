@@ -4,9 +4,8 @@ use mathlib.Core.Path.{◌≡◌, sym, ap, ◌∙◌}
 use mathlib.Core.Bool.{true}
 use mathlib.Core.List.{List}
 use native.Mathlib.Omega.{arith}
-use native.Mathlib.Decide.{dec_le}
-use lib.ListN.{get_or, set, length-set}
-use lib.Seq.{get_or-set_same, get_or-set_other}
+use lib.ListN.{get_or, length-set}
+use borrow.Author.Count.{below_more}
 use lib.Dec.{leb}
 use Rattle.lists.specs.Lists.{pick}
 use Rattle.lists.proofs.Bools.{by_test}
@@ -18,14 +17,15 @@ use Rattle.unpacked.specs.inside.ReadyByStage.{finish_back, start_back, ready_if
 use Rattle.unpacked.specs.inside.UnpackedBlock.{Shapes}
 use Rattle.unpacked.specs.declared.Shape.{Shape}
 use Rattle.choices.specs.inside.InstructionRows.{Playing}
-use Rattle.choices.specs.inside.NoteSteps.{four_stores, fixed, fetch_of, decoded_of, committed_of, decoded_into, committed_into}
+use Rattle.choices.specs.inside.NoteSteps.{fixed, fetch_of, decoded_of, committed_of, decoded_into, committed_into}
 use Rattle.choices.specs.inside.PlayNotes.{Times, starts, ends, Notes}
-use Rattle.choices.proofs.NoteTimes.{times_back, times_same, times_more}
+use Rattle.choices.proofs.NoteTimes.{times_back, times_more}
 use Rattle.choices.proofs.PlayTimes.{fetch_start, decode_start, commit_start, ends_one, ends_fetch, ends_most}
-use Rattle.choices.proofs.FourStores.{four_long, four_other, four_first, four_second, four_third, four_fourth}
-use Rattle.choices.proofs.StartsKept.{fixed_same, starts_more, starts_same}
+use Rattle.choices.specs.declared.Row.{Row}
+use Rattle.choices.specs.declared.PlayNotes.{PlayNotes}
+use Rattle.choices.proofs.StartsKept.{starts_more, starts_same}
 
-module _ (b : Block) (l rows : List ℕ) (P : Playing b l rows) (h : Shape) (H : Shapes b h) where
+module _ (b : Block) (l : List ℕ) (rows : List Row) (P : Playing b l rows) (h : Shape) (H : Shapes b h) where
   abbrev A : Ranges b
   A = ranges b P.accepted
 
@@ -33,11 +33,11 @@ module _ (b : Block) (l rows : List ℕ) (P : Playing b l rows) (h : Shape) (H :
   s = starts b l
 
   -- finishes, so many places back
-  finish_back_lem : (x : List ℕ) (o m g i k p : ℕ) → Times x o m (λ j. ends b l (node g j)) → g < 5 → (g ≡ EX → ⊥)
-      → k ≤ 32 → (k ≤ i → i - k < m) → p ≡ o + 32 + i - k → get_or x p 0 ≡ finish_back s g 1 k i
+  finish_back_lem : (y : List ℕ) (m g i k p : ℕ) → Times y m (λ j. ends b l (node g j)) → g < 5 → (g ≡ EX → ⊥)
+      → k ≤ 32 → (k ≤ i → i - k < m) → p ≡ 32 + i - k → get_or y p 0 ≡ finish_back s g 1 k i
   unfolding finish_back
-  finish_back_lem x o m g i k p L five ne small some e =
-      times_back x o m (λ j. ends b l (node g j)) L i k p small some e
+  finish_back_lem y m g i k p L five ne small some e =
+      times_back y m (λ j. ends b l (node g j)) L i k p small some e
       ∙ ap (λ (y : ℕ). pick (leb k i) y 0) (ends_one b l rows P g (i - k) five ne)
 
   -- where a node takes one cycle, its finish by the finish of the one before it is its start by the start of that, and one
@@ -45,17 +45,17 @@ module _ (b : Block) (l rows : List ℕ) (P : Playing b l rows) (h : Shape) (H :
   unfolding finish_back start_back
   one_later g i a = by_test (leb 1 i) (λ t. rw t (omega arith)) (λ t. rw t (omega arith))
 
-  module _ (c m : ℕ) (x : List ℕ) (N : Notes b l c m x) where
+  module _ (c m : ℕ) (x : PlayNotes) (N : Notes b l c m x) where
     module _ (y : ℕ) (takes : y ≡ fetch) (some : m < b.n) (near : m < c + b.w) where
       fetch_is : fetch_of h m x ≡ start s (node IF m)
       unfolding fetch_of ready_if start_back
       fetch_is =
           rw (
-            finish_back_lem x 328 m ID m b.q (360 + m - h.q) N.off_ex.decoded (omega arith) (λ e. omega arith)
+            finish_back_lem x.decoded m ID m b.q (32 + m - h.q) N.off_ex.decoded (omega arith) (λ e. omega arith)
                 (omega (arith, A.q.1)) (λ k. omega (arith, A.q.0)) (omega (arith, H.q)),
-            finish_back_lem x 236 m IF m b.f (268 + m - h.f) N.off_ex.fetched (omega arith) (λ e. omega arith)
+            finish_back_lem x.fetched m IF m b.f (32 + m - h.f) N.off_ex.fetched (omega arith) (λ e. omega arith)
                 (omega (arith, A.f.1)) (λ k. omega (arith, A.f.0)) (omega (arith, H.f)),
-            times_back x 144 m (λ i. start s (node IF i)) N.off_ex.fetch m 1 (176 + m - 1) (omega arith) (λ k. omega arith) (omega arith),
+            times_back x.fetch m (λ i. start s (node IF i)) N.off_ex.fetch m 1 (32 + m - 1) (omega arith) (λ k. omega arith) (omega arith),
           )
           (sym (fetch_start b l rows P m some))
 
@@ -68,11 +68,11 @@ module _ (b : Block) (l rows : List ℕ) (P : Playing b l rows) (h : Shape) (H :
           rw (
             fetched_is,
             ends_fetch b l rows P m,
-            finish_back_lem x 420 c CM m b.w (452 + m - h.w) N.off_ex.committed (omega arith) (λ e. omega arith)
+            finish_back_lem x.committed c CM m b.w (32 + m - h.w) N.off_ex.committed (omega arith) (λ e. omega arith)
                 (omega (arith, A.w.1)) (λ k. omega arith) (omega (arith, H.w)),
-            finish_back_lem x 328 m ID m b.d (360 + m - h.d) N.off_ex.decoded (omega arith) (λ e. omega arith)
+            finish_back_lem x.decoded m ID m b.d (32 + m - h.d) N.off_ex.decoded (omega arith) (λ e. omega arith)
                 (omega (arith, A.d.1)) (λ k. omega (arith, A.d.0)) (omega (arith, H.d)),
-            finish_back_lem x 328 m ID m 1 (360 + m - 1) N.off_ex.decoded (omega arith) (λ e. omega arith) (omega arith) (λ k. omega arith) (omega arith),
+            finish_back_lem x.decoded m ID m 1 (32 + m - 1) N.off_ex.decoded (omega arith) (λ e. omega arith) (omega arith) (λ k. omega arith) (omega arith),
           )
           (one_later ID m (max (start s (node IF m) + fetch) (max (finish_back s CM 1 b.w m) (finish_back s ID 1 b.d m)))
           ∙ sym (ends_one b l rows P ID m (omega arith) (λ e. omega arith) ∙ ap (λ (y : ℕ). y + 1) (decode_start b l rows P m some)))
@@ -88,43 +88,22 @@ module _ (b : Block) (l rows : List ℕ) (P : Playing b l rows) (h : Shape) (H :
           let g : (F + y) % 65536 ≡ ends b l (node IF m)
           = omega (arith, fetched_is, ends_most b l rows P IF m (omega arith) some) in
           let d : D % 65536 ≡ ends b l (node ID m) = omega (arith, decoded_is, ends_most b l rows P ID m (omega arith) some) in
-          let other = four_other x (176 + m) (F % 65536) (268 + m) ((F + y) % 65536) (360 + m) (D % 65536) (64 + m) (D % 65536) in
-          let first = four_first x (176 + m) (F % 65536) (268 + m) ((F + y) % 65536) (360 + m) (D % 65536) (64 + m) (D % 65536) in
-          let second = four_second x (176 + m) (F % 65536) (268 + m) ((F + y) % 65536) (360 + m) (D % 65536) (64 + m) (D % 65536) in
-          let third = four_third x (176 + m) (F % 65536) (268 + m) ((F + y) % 65536) (360 + m) (D % 65536) (64 + m) (D % 65536) in
-          let fourth = four_fourth x (176 + m) (F % 65536) (268 + m) ((F + y) % 65536) (360 + m) (D % 65536) (64 + m) (D % 65536) in
-          let long = N.long in
           let n = A.n.1 in
           record {
-            long = four_long x (176 + m) (F % 65536) (268 + m) ((F + y) % 65536) (360 + m) (D % 65536) (64 + m) (D % 65536) ∙ N.long;
+            places = N.places;
+            sixty = length-set x.waiting m (D % 65536) ∙ N.sixty;
+            kinds = N.kinds;
             past = omega (arith, N.past);
             few = omega arith;
             off_ex =
                 record {
-                  fetch =
-                      times_more x 144 m _ N.off_ex.fetch _
-                      (λ p u v. other p (λ e. omega arith) (λ e. omega arith) (λ e. omega arith) (λ e. omega arith))
-                      (first (omega arith) (λ e. omega arith) (λ e. omega arith) (λ e. omega arith) ∙ f);
-                  fetched =
-                      times_more x 236 m _ N.off_ex.fetched _
-                      (λ p u v. other p (λ e. omega arith) (λ e. omega arith) (λ e. omega arith) (λ e. omega arith))
-                      (second (omega arith) (λ e. omega arith) (λ e. omega arith) ∙ g);
-                  decoded =
-                      times_more x 328 m _ N.off_ex.decoded _
-                      (λ p u v. other p (λ e. omega arith) (λ e. omega arith) (λ e. omega arith) (λ e. omega arith))
-                      (third (omega arith) (λ e. omega arith) ∙ d);
-                  committed =
-                      times_same x 420 c _ N.off_ex.committed _
-                      (λ p u v. other p (λ e. omega arith) (λ e. omega arith) (λ e. omega arith) (λ e. omega arith));
+                  fetch = times_more x.fetch m _ N.off_ex.fetch (F % 65536) (omega arith) f;
+                  fetched = times_more x.fetched m _ N.off_ex.fetched ((F + y) % 65536) (omega arith) g;
+                  decoded = times_more x.decoded m _ N.off_ex.decoded (D % 65536) (omega arith) d;
+                  committed = N.off_ex.committed;
                 };
-            fixes =
-                starts_more b l x _ n m N.fixes some
-                (λ p u v. other p (λ e. omega arith) (λ e. omega arith) (λ e. omega arith) v)
-                (fourth (omega arith) ∙ d);
-            passed = λ i u.
-                let past = N.past in
-                fixed_same x (four_stores x (176 + m) (F % 65536) (268 + m) ((F + y) % 65536) (360 + m) (D % 65536) (64 + m) (D % 65536)) i
-                (other (i + 1) (λ e. omega arith) (λ e. omega arith) (λ e. omega arith) (λ e. omega arith)) ∙ N.passed i u;
+            fixes = starts_more b l m x N.fixes _ _ _ _ (D % 65536) some (omega (arith, N.sixty)) d;
+            passed = N.passed;
           }
 
     module _ (some : c < m) (has : fixed x c ≡ true) where
@@ -138,9 +117,9 @@ module _ (b : Block) (l rows : List ℕ) (P : Playing b l rows) (h : Shape) (H :
           rw (
             (N.fixes.written c few has).0,
             ends_one b l rows P WB c (omega arith) (λ e. omega arith),
-            finish_back_lem x 420 c CM c b.c (452 + c - h.c) N.off_ex.committed (omega arith) (λ e. omega arith)
+            finish_back_lem x.committed c CM c b.c (32 + c - h.c) N.off_ex.committed (omega arith) (λ e. omega arith)
                 (omega (arith, A.c.1)) (λ k. omega (arith, A.c.0)) (omega (arith, H.c)),
-            finish_back_lem x 420 c CM c 1 (452 + c - 1) N.off_ex.committed (omega arith) (λ e. omega arith) (omega arith) (λ k. omega arith) (omega arith),
+            finish_back_lem x.committed c CM c 1 (32 + c - 1) N.off_ex.committed (omega arith) (λ e. omega arith) (omega arith) (λ k. omega arith) (omega arith),
           )
           (one_later CM c (max (start s (node WB c) + 1) (finish_back s CM 1 b.c c))
           ∙ sym (ends_one b l rows P CM c (omega arith) (λ e. omega arith) ∙ ap (λ (y : ℕ). y + 1) (commit_start b l rows P c few)))
@@ -150,35 +129,20 @@ module _ (b : Block) (l rows : List ℕ) (P : Playing b l rows) (h : Shape) (H :
       notes_committed =
           let C : ℕ = committed_of h c x in
           let v : C % 65536 ≡ ends b l (node CM c) = omega (arith, committed_is, ends_most b l rows P CM c (omega arith) few) in
-          let long = N.long in
           let n = A.n.1 in
-          let o = N.few in
-          let other : (p : ℕ) → (p ≡ 452 + c → ⊥) → get_or (set x (452 + c) (C % 65536)) p 0 ≡ get_or x p 0
-          = λ p ne. get_or-set_other x (452 + c) p (C % 65536) 0 ne in
           record {
-            long = length-set x (452 + c) (C % 65536) ∙ N.long;
+            places = N.places;
+            sixty = N.sixty;
+            kinds = N.kinds;
             past = omega arith;
             few = N.few;
             off_ex =
                 record {
-                  fetch = times_same x 144 m _ N.off_ex.fetch _ (λ p u w. other p (λ e. omega arith));
-                  fetched = times_same x 236 m _ N.off_ex.fetched _ (λ p u w. other p (λ e. omega arith));
-                  decoded = times_same x 328 m _ N.off_ex.decoded _ (λ p u w. other p (λ e. omega arith));
-                  committed =
-                      times_more x 420 c _ N.off_ex.committed _ (λ p u w. other p (λ e. omega arith))
-                      (get_or-set_same x (452 + c) (C % 65536) 0 (omega arith) ∙ v);
+                  fetch = N.off_ex.fetch;
+                  fetched = N.off_ex.fetched;
+                  decoded = N.off_ex.decoded;
+                  committed = times_more x.committed c _ N.off_ex.committed (C % 65536) (omega arith) v;
                 };
-            fixes = starts_same b l x _ n m N.fixes N.few (λ p u. other p (λ e. omega arith));
-            passed = λ i u. at_last i u (dec_le c i);
+            fixes = starts_same b l m x N.fixes _ _ _ _;
+            passed = below_more (λ i. fixed x i ≡ true) c N.passed has;
           }
-        where
-          at_last : (i : ℕ) → i < c + 1 → Dec (c ≤ i) → fixed (set x (452 + c) (committed_of h c x % 65536)) i ≡ true
-          at_last i u (yes g) =
-              let C : ℕ = committed_of h c x % 65536 in
-              let n = A.n.1 in
-              let q : i ≡ c = omega arith in
-              rw q (fixed_same x (set x (452 + c) C) c (get_or-set_other x (452 + c) (c + 1) C 0 (λ e. omega arith)) ∙ has)
-          at_last i u (no g) =
-              let C : ℕ = committed_of h c x % 65536 in
-              let n = A.n.1 in
-              fixed_same x (set x (452 + c) C) i (get_or-set_other x (452 + c) (i + 1) C 0 (λ e. omega arith)) ∙ N.passed i (omega arith)

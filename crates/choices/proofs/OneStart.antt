@@ -1,28 +1,31 @@
 -- One more EX start, as the code chooses it: the notes hold again, and one instruction fewer is without a start. Assumes nothing.
-use Prim.Native.Nat.{ℕ, ◌+◌, ◌*◌, ◌≤◌, ◌<◌, min}
+use Prim.Native.Nat.{ℕ, ◌+◌, ◌≤◌, ◌<◌, min}
 use mathlib.Core.Path.{◌≡◌, sym, ap, ◌∙◌}
 use mathlib.Core.Bool.{Bool, true, false, not}
 use mathlib.Core.List.{List}
 use native.Mathlib.Omega.{arith}
-use lib.ListN.{length, get_or}
+use lib.ListN.{length}
 use Rattle.lists.specs.Lists.{pick, numbers_where}
 use Rattle.lists.proofs.NumbersWhere.{length_but_one}
 use Rattle.record.specs.declared.Block.{Block}
 use Rattle.choices.specs.declared.Choice.{Choice}
 use Rattle.choices.specs.inside.InstructionRows.{Playing}
-use Rattle.choices.specs.inside.NoteSteps.{fixed, end_of, key_of, Chooses, started_into}
+use Rattle.choices.specs.inside.NoteSteps.{fixed, unit_times, end_of, key_of, Chooses, started_into}
 use Rattle.choices.specs.inside.PlayNotes.{Notes}
 use Rattle.choices.proofs.StartChosen.{chosen_next}
+use Rattle.choices.specs.inside.InstructionRows.{row}
+use Rattle.choices.specs.declared.Row.{Row}
+use Rattle.choices.specs.declared.PlayNotes.{PlayNotes}
 use Rattle.choices.proofs.NotesStarted.{notes_started, started_fixed, started_else}
 
 -- how many of the first m have no start
-abbrev waits : List ℕ → ℕ → Bool
+abbrev waits : PlayNotes → ℕ → Bool
 waits x i = not (fixed x i)
 
-abbrev pub left : ℕ → List ℕ → ℕ
+abbrev pub left : ℕ → PlayNotes → ℕ
 left m x = length (numbers_where 0 m (waits x))
 
-left_less : (m i : ℕ) (x x' : List ℕ) → i < m → fixed x i ≡ false → fixed x' i ≡ true
+left_less : (m i : ℕ) (x x' : PlayNotes) → i < m → fixed x i ≡ false → fixed x' i ≡ true
     → ((j : ℕ) → j < m → (j ≡ i → ⊥) → fixed x' j ≡ fixed x j) → left m x' < left m x
 left_less m i x x' l off on same =
     omega (
@@ -31,13 +34,13 @@ left_less m i x x' l off on same =
       ap (λ (t : Bool). pick {A = ℕ} (not t) 1 0) off,
     )
 
-module _ (b : Block) (l rows : List ℕ) (P : Playing b l rows) (c m : ℕ) (x : List ℕ) (N : Notes b l c m x)
+module _ (b : Block) (l : List ℕ) (rows : List Row) (P : Playing b l rows) (c m : ℕ) (x : PlayNotes) (N : Notes b l c m x)
     (some : c < m) (all : min b.n (c + b.w) ≤ m) (off : fixed x c ≡ false) (v : Choice) (R : Chooses c m rows x v)
-    (k y : ℕ) (kind : k ≡ get_or rows (4 * v.at) 0) (takes : y ≡ get_or rows (4 * v.at + 1) 0) where
+    (k y : ℕ) (kind : k ≡ (row rows v.at).kind) (takes : y ≡ (row rows v.at).latency) where
   few : v.at < b.n
   few = omega (arith, R.among.below, N.few)
 
-  from : get_or x (128 + 4 * k) 0 ≤ v.start
+  from : (unit_times x k).first ≤ v.start
   unfolding key_of end_of
   from = rw kind (omega (arith, R.among.start))
 

@@ -15,9 +15,10 @@ use Rattle.unpacked.specs.inside.UnpackedBlock.{code}
 use Rattle.model.proofs.Latencies.{stage_node, chosen_if, chosen_one, chosen_else, chosen_ex}
 use Rattle.unpacked.proofs.ReadyTimes.{ready_if_lem, ready_id_lem, ready_ex_lem, ready_wb_lem, ready_cm_lem}
 use Rattle.choices.specs.inside.InstructionRows.{Playing}
+use Rattle.choices.specs.declared.Row.{Row}
 use Rattle.choices.specs.inside.PlayNotes.{starts, ends}
 
-module _ (b : Block) (l rows : List ℕ) (P : Playing b l rows) where
+module _ (b : Block) (l : List ℕ) (rows : List Row) (P : Playing b l rows) where
   abbrev s : List ℕ
   s = starts b l
 

@@ -15,6 +15,9 @@ use Rattle.choices.specs.inside.InstructionRows.{Playing}
 use Rattle.choices.specs.inside.NoteSteps.{fixed, sources_of, Noted, row_into}
 use Rattle.choices.specs.inside.PlayNotes.{starts, ends, Notes}
 use Rattle.choices.proofs.PlayTimes.{off_ex, execute_ready, ends_one, ends_ex, write_end}
+use Rattle.choices.specs.inside.InstructionRows.{row}
+use Rattle.choices.specs.declared.Row.{Row}
+use Rattle.choices.specs.declared.PlayNotes.{PlayNotes}
 use Rattle.choices.proofs.StartChosen.{serves, start_most, sources_known}
 
 same_three : (a b c a' b' c' : ℕ) → a ≡ a' → b ≡ b' → c ≡ c' → ◌≡◌ {A = List ℕ} (a ∷ b ∷ c ∷ []) (a' ∷ b' ∷ c' ∷ [])
@@ -43,7 +46,7 @@ module _ (b : Block) (l : List ℕ) where
   unfolding play_table
   table_all o = let e : 0 + 3 * (5 * b.n) ≡ play_numbers b = omega arith in rw e refl
 
-  module _ (rows : List ℕ) (P : Playing b l rows) (c m : ℕ) (x : List ℕ) (N : Notes b l (c + 1) m x) where
+  module _ (rows : List Row) (P : Playing b l rows) (c m : ℕ) (x : PlayNotes) (N : Notes b l (c + 1) m x) where
     abbrev s : List ℕ
     s = starts b l
 
@@ -66,31 +69,31 @@ module _ (b : Block) (l : List ℕ) where
         same_three _ _ _ _ _ _ f f e ∙ sym (three_off g h ne)
 
     -- ---- the notes of c
-    fetch_at : get_or x (176 + c) 0 ≡ start s (node IF c)
+    fetch_at : get_or x.fetch (32 + c) 0 ≡ start s (node IF c)
     fetch_at = N.off_ex.fetch.each c (omega (arith, N.past))
 
-    fetched_at : get_or x (268 + c) 0 ≡ ends b l (node IF c)
+    fetched_at : get_or x.fetched (32 + c) 0 ≡ ends b l (node IF c)
     fetched_at = N.off_ex.fetched.each c (omega (arith, N.past))
 
-    decoded_at : get_or x (360 + c) 0 ≡ ends b l (node ID c)
+    decoded_at : get_or x.decoded (32 + c) 0 ≡ ends b l (node ID c)
     decoded_at = N.off_ex.decoded.each c (omega (arith, N.past))
 
-    written_at : get_or x (c + 1) 0 ≡ ends b l (node WB c)
+    written_at : get_or x.written (c + 1) 0 ≡ ends b l (node WB c)
     written_at = (N.fixes.written c few has).0
 
-    committed_at : get_or x (452 + c) 0 ≡ ends b l (node CM c)
+    committed_at : get_or x.committed (32 + c) 0 ≡ ends b l (node CM c)
     committed_at = N.off_ex.committed.each c (omega arith)
 
-    three_fetch : get_or x (176 + c) 0 ∷ get_or x (176 + c) 0 ∷ get_or x (268 + c) 0 ∷ [] ≡ three (node IF c)
+    three_fetch : get_or x.fetch (32 + c) 0 ∷ get_or x.fetch (32 + c) 0 ∷ get_or x.fetched (32 + c) 0 ∷ [] ≡ three (node IF c)
     three_fetch = same_three _ _ _ _ _ _ fetch_at fetch_at fetched_at ∙ sym (three_off IF (omega arith) (λ e. omega arith))
 
-    ready_at : max (get_or x (360 + c) 0) (sources_of rows x c) ≡ ready b (chosen b l) s (node EX c)
+    ready_at : max (get_or x.decoded (32 + c) 0) (sources_of rows x c) ≡ ready b (chosen b l) s (node EX c)
     unfolding ready_ex
     ready_at =
         rw (decoded_at, ends_one b l rows P ID c (omega arith) (λ e. omega arith), sources_known b l rows P (c + 1) m x N c (omega arith) few)
         (sym (execute_ready b l rows P c))
 
-    three_execute : (max (get_or x (360 + c) 0) (sources_of rows x c) % 65536) ∷ (get_or x (c + 1) 0 - 1 - get_or rows (4 * c + 1) 0) ∷ (get_or x (c + 1) 0 - 1) ∷ []
+    three_execute : (max (get_or x.decoded (32 + c) 0) (sources_of rows x c) % 65536) ∷ (get_or x.written (c + 1) 0 - 1 - (row rows c).latency) ∷ (get_or x.written (c + 1) 0 - 1) ∷ []
         ≡ three (node EX c)
     unfolding three_times
     three_execute =
@@ -106,12 +109,12 @@ module _ (b : Block) (l : List ℕ) where
     row_table o t e =
         let first : node IF c ≡ 5 * c = omega arith in
         table_more o _ _ (node CM c) (5 * (c + 1)) (omega arith)
-        (three_one CM (get_or x (452 + c) 0) (omega arith) (λ e. omega arith) committed_at)
+        (three_one CM (get_or x.committed (32 + c) 0) (omega arith) (λ e. omega arith) committed_at)
         (table_more o _ _ (node WB c) (node CM c) (omega arith)
-        (three_one WB (get_or x (c + 1) 0) (omega arith) (λ e. omega arith) written_at)
+        (three_one WB (get_or x.written (c + 1) 0) (omega arith) (λ e. omega arith) written_at)
         (table_more o _ _ (node EX c) (node WB c) (omega arith) three_execute
         (table_more o _ _ (node ID c) (node EX c) (omega arith)
-        (three_one ID (get_or x (360 + c) 0) (omega arith) (λ e. omega arith) decoded_at)
+        (three_one ID (get_or x.decoded (32 + c) 0) (omega arith) (λ e. omega arith) decoded_at)
         (table_more o t _ (node IF c) (node ID c) (omega arith) three_fetch (rw first e)))))
 
     -- ---- what the code takes away is there

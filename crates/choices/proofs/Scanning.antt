@@ -9,9 +9,11 @@ use borrow.Author.Tests.{ltb-true, ltb-false}
 use Rattle.lists.specs.Lists.{pick}
 use Rattle.lists.proofs.Bools.{by_test}
 use Rattle.choices.specs.declared.Choice.{Choice}
+use Rattle.choices.specs.declared.Row.{Row}
+use Rattle.choices.specs.declared.PlayNotes.{PlayNotes}
 use Rattle.choices.specs.inside.NoteSteps.{never, ready_of, key_of, Rising, Among, First}
 
-module _ (rows x : List ℕ) where
+module _ (rows : List Row) (x : PlayNotes) where
   -- v is the first of those that can start first, of the instructions from c on and below j
   pub record Best (c j : ℕ) (v : Choice) : Type 0 where
     pub among : Among c j rows x v
@@ -55,11 +57,11 @@ module _ (rows x : List ℕ) where
         (λ t. let less = ltb-false k v.start t in best_kept less (at ∙ rw t refl) (omega arith))
 
   -- ---- none further on can start before it is decoded
-  key_over : (m i j : ℕ) → Rising m x → j ≤ i → i < m → get_or x (360 + j) 0 ≤ key_of rows x i
+  key_over : (m i j : ℕ) → Rising m x → j ≤ i → i < m → get_or x.decoded (32 + j) 0 ≤ key_of rows x i
   unfolding key_of ready_of
   key_over m i j R l h = omega (arith, R.each j i l h)
 
-  pub best_all : (c j m : ℕ) (v : Choice) → Best c j v → Rising m x → v.start ≤ get_or x (360 + j) 0 → First c m rows x v
+  pub best_all : (c j m : ℕ) (v : Choice) → Best c j v → Rising m x → v.start ≤ get_or x.decoded (32 + j) 0 → First c m rows x v
   best_all c j m v B R s i l h =
       by_test (ltb i j) (λ t. B.first i l (ltb-true i j t))
       (λ t.

@@ -1,17 +1,16 @@
 -- Four numbers, rising, of which the least goes and another comes: they rise again, and how many of them are above a time.
 -- Assumes nothing.
-use Prim.Native.Nat.{ℕ, ◌+◌, ◌-◌, ◌*◌, ◌≤◌, ◌<◌, min, max}
+use Prim.Native.Nat.{ℕ, ◌+◌, ◌-◌, ◌≤◌, ◌<◌, min, max}
 use mathlib.Core.Path.{◌≡◌, refl}
-use mathlib.Core.List.{List}
 use native.Mathlib.Omega.{arith}
 use native.Mathlib.Decide.{dec_le}
-use lib.ListN.{get_or}
 use lib.Dec.{ltb}
 use borrow.Author.Tests.{ltb-true, ltb-false}
 use Rattle.lists.specs.Lists.{pick}
 use Rattle.lists.proofs.Bools.{by_test}
 use Rattle.record.specs.declared.Block.{Block}
 use Rattle.model.specs.Cycles.{units}
+use Rattle.choices.specs.declared.UnitTimes.{UnitTimes}
 use Rattle.choices.specs.inside.PlayNotes.{above}
 
 module _ (t : ℕ) where
@@ -93,11 +92,9 @@ unfolding units
 units_range b k = (omega arith, omega arith)
 
 -- how many of a kind's four numbers are above a time
-pub above_over : (x : List ℕ) (k t : ℕ)
-    → above x k t
-    ≡ over t (get_or x (128 + 4 * k) 0) + over t (get_or x (128 + 4 * k + 1) 0) + over t (get_or x (128 + 4 * k + 2) 0) + over t (get_or x (128 + 4 * k + 3) 0)
+pub above_over : (u : UnitTimes) (t : ℕ) → above u t ≡ over t u.first + over t u.second + over t u.third + over t u.fourth
 unfolding above over
-above_over x k t = refl
+above_over u t = refl
 
 -- ---- they rise
 pub rise_first : (q r e : ℕ) → q ≤ r → min q e ≤ min r (max q e)

@@ -8,8 +8,8 @@
 -- start yet; that source then starts before what waits for it. What cannot be decoded yet waits for the commit of c, and so
 -- starts after c. So each that S has not either can be compared with the one chosen, or starts after another that S has not:
 -- that is what `least` asks. The scan may stop where the finishes of ID have reached the best time, since those rise.
-use Prim.Native.Nat.{ℕ, zero, suc, ◌+◌, ◌-◌, ◌*◌, ◌≤◌, ◌<◌, min, max}
-use mathlib.Core.Path.{◌≡◌, refl, sym, ap, ◌∙◌}
+use Prim.Native.Nat.{ℕ, zero, suc, ◌+◌, ◌-◌, ◌≤◌, ◌<◌, min, max}
+use mathlib.Core.Path.{◌≡◌, refl, sym, subst, ap, ◌∙◌}
 use mathlib.Core.Bool.{true, false, false≢true}
 use mathlib.Core.List.{List}
 use mathlib.Core.Logic.{◌⊎◌, inl, inr, ⊎_elim}
@@ -28,15 +28,17 @@ use Rattle.schedules.proofs.PlayExecutions.{served}
 use Rattle.schedules.proofs.Choosing.{Behind, late, oldest, least}
 use Rattle.unpacked.specs.inside.ReadyByStage.{finish_source, ready_ex}
 use Rattle.unpacked.specs.inside.UnpackedBlock.{code}
-use Rattle.unpacked.proofs.LastWriters.{source_most}
+use Rattle.unpacked.proofs.RegisterSources.{source_most}
 use Rattle.choices.specs.declared.Choice.{Choice}
-use Rattle.choices.specs.inside.InstructionRows.{Playing, Leads}
-use Rattle.choices.specs.inside.NoteSteps.{never, fixed, sources_of, ready_of, end_of, key_of, Rising, Chooses}
+use Rattle.choices.specs.inside.InstructionRows.{Playing}
+use Rattle.choices.specs.inside.NoteSteps.{never, fixed, unit_times, sources_of, ready_of, end_of, key_of, Rising, Chooses}
 use Rattle.choices.specs.inside.PlayNotes.{starts, ends, Slots, Notes}
 use Rattle.choices.proofs.PlayTimes.{execute_ready, ends_one, ends_ex, ends_most, decode_order, source_sooner, window_sooner}
+use Rattle.choices.specs.declared.Row.{Row}
+use Rattle.choices.specs.declared.PlayNotes.{PlayNotes}
 use Rattle.choices.proofs.SlotSums.{units_range, above_over, first_from, first_on}
 
-module _ (b : Block) (l rows : List ℕ) (P : Playing b l rows) where
+module _ (b : Block) (l : List ℕ) (rows : List Row) (P : Playing b l rows) where
   abbrev W : Work
   W = work b l
 
@@ -52,38 +54,28 @@ module _ (b : Block) (l rows : List ℕ) (P : Playing b l rows) where
   pub start_most : (i : ℕ) → i < b.n → W.start i < never
   start_most i h = omega (arith, ends_ex b l rows P i, ends_most b l rows P EX i (omega arith) h)
 
-  -- the rows lead where they should
-  pub leads : (i : ℕ) → i < b.n → Leads i rows
-  leads i h =
-      record {
-        few = omega (arith, A.n.1);
-        kind = omega (arith, P.has.kind i h, (A.instruction i h).kind);
-        takes = omega (arith, P.has.takes i h, P.fit.most i h, P.cap i);
-        first = omega (arith, A.n.1, P.has.first i h, source_most b (entry b i).reads1 i);
-        second = omega (arith, A.n.1, P.has.second i h, source_most b (entry b i).reads2 i);
-      }
-
   -- ---- units: the first of a kind's four numbers is the first time at which one is free
-  slots_free : (k : ℕ) (x : List ℕ) → Slots b l k x → FreeFrom W (fixed x) never k (get_or x (128 + 4 * k) 0)
+  slots_free : (k : ℕ) (x : PlayNotes) → Slots b l k (fixed x) (unit_times x k) → FreeFrom W (fixed x) never k (unit_times x k).first
   slots_free k x S =
       record {
         from = λ t h u.
             first_from t _ _ _ _ (units b k) (held W (fixed x) k t) S.first S.second S.third (units_range b k).1
-            (sym (above_over x k t) ∙ S.count t h) u;
-        on = λ t h u. first_on t _ _ _ _ (units b k) (held W (fixed x) k t) (units_range b k).1 (sym (above_over x k t) ∙ S.count t h) u;
+            (sym (above_over (unit_times x k) t) ∙ S.count t h) u;
+        on = λ t h u. first_on t _ _ _ _ (units b k) (held W (fixed x) k t) (units_range b k).1 (sym (above_over (unit_times x k) t) ∙ S.count t h) u;
       }
 
-  module _ (c m : ℕ) (x : List ℕ) (N : Notes b l c m x) where
+  module _ (c m : ℕ) (x : PlayNotes) (N : Notes b l c m x) where
     free_at : (i : ℕ) → i < b.n → FreeFrom W (fixed x) never (W.kind i) (end_of rows x i)
     unfolding end_of
     free_at i h =
-        rw (P.has.kind i h) (slots_free (entry b i).kind x (N.fixes.slots (entry b i).kind (omega (arith, (A.instruction i h).kind))))
+        subst (λ (k : ℕ). FreeFrom W (fixed x) never (W.kind i) (unit_times x k).first) (sym (P.has.kind i h))
+        (slots_free (entry b i).kind x (N.fixes.slots (entry b i).kind (omega (arith, (A.instruction i h).kind))))
 
     -- ---- a ready time, worked out from the notes, is the play's, or a source has no start yet
     abbrev Waits : ℕ → Type 0
     Waits j = (i : ℕ) × (i < j) × (fixed x i ≡ false) × (W.start i < W.start j)
 
-    source_of : (j y : ℕ) → j < b.n → y ≤ j → finish_source s y ≤ W.start j → (get_or x y 0 ≡ finish_source s y) ⊎ (Waits j × (get_or x y 0 ≡ never))
+    source_of : (j y : ℕ) → j < b.n → y ≤ j → finish_source s y ≤ W.start j → (get_or x.written y 0 ≡ finish_source s y) ⊎ (Waits j × (get_or x.written y 0 ≡ never))
     unfolding finish_source
     source_of j zero h k f = inl N.fixes.none
     source_of j (suc i) h k f =
@@ -103,7 +95,7 @@ module _ (b : Block) (l rows : List ℕ) (P : Playing b l rows) where
     abbrev other : ℕ → ℕ
     other j = code (source b (entry b j).reads2 j)
 
-    ready_known : (j : ℕ) → j < m → fixed x j ≡ false → get_or x (one j) 0 ≡ finish_source s (one j) → get_or x (other j) 0 ≡ finish_source s (other j)
+    ready_known : (j : ℕ) → j < m → fixed x j ≡ false → get_or x.written (one j) 0 ≡ finish_source s (one j) → get_or x.written (other j) 0 ≡ finish_source s (other j)
         → ready_of rows x j ≡ W.ready j
     unfolding ready_of sources_of ready_ex
     ready_known j h off p q =
@@ -119,11 +111,11 @@ module _ (b : Block) (l rows : List ℕ) (P : Playing b l rows) where
         (omega (arith, r, e), omega (arith, r, e))
 
     -- one that has no start yet
-    never_ready : (j : ℕ) → j < b.n → (get_or x (one j) 0 ≡ never) ⊎ (get_or x (other j) 0 ≡ never) → never ≤ ready_of rows x j
+    never_ready : (j : ℕ) → j < b.n → (get_or x.written (one j) 0 ≡ never) ⊎ (get_or x.written (other j) 0 ≡ never) → never ≤ ready_of rows x j
     unfolding ready_of sources_of
     never_ready j g w =
-        let p = ap (λ (y : ℕ). get_or x y 0) (P.has.first j g) in
-        let q = ap (λ (y : ℕ). get_or x y 0) (P.has.second j g) in
+        let p = ap (λ (y : ℕ). get_or x.written y 0) (P.has.first j g) in
+        let q = ap (λ (y : ℕ). get_or x.written y 0) (P.has.second j g) in
         ⊎_elim (λ e. omega (arith, p, e)) (λ e. omega (arith, q, e)) w
 
     ready_or : (j : ℕ) → j < m → fixed x j ≡ false → (ready_of rows x j ≡ W.ready j) ⊎ (Waits j × (never ≤ ready_of rows x j))
@@ -140,13 +132,13 @@ module _ (b : Block) (l rows : List ℕ) (P : Playing b l rows) where
     pub sources_known : (j : ℕ) → j ≤ c → j < b.n → sources_of rows x j ≡ max (finish_source s (one j)) (finish_source s (other j))
     unfolding sources_of
     sources_known j h g =
-        let p : get_or x (one j) 0 ≡ finish_source s (one j)
+        let p : get_or x.written (one j) 0 ≡ finish_source s (one j)
         = started (one j) (source_of j (one j) g (source_most b (entry b j).reads1 j) (source_late j g).0) in
-        let q : get_or x (other j) 0 ≡ finish_source s (other j)
+        let q : get_or x.written (other j) 0 ≡ finish_source s (other j)
         = started (other j) (source_of j (other j) g (source_most b (entry b j).reads2 j) (source_late j g).1) in
         rw (P.has.first j g, P.has.second j g) (rw (p, q) refl)
       where
-        started : (y : ℕ) → (get_or x y 0 ≡ finish_source s y) ⊎ (Waits j × (get_or x y 0 ≡ never)) → get_or x y 0 ≡ finish_source s y
+        started : (y : ℕ) → (get_or x.written y 0 ≡ finish_source s y) ⊎ (Waits j × (get_or x.written y 0 ≡ never)) → get_or x.written y 0 ≡ finish_source s y
         started y (inl e) = e
         started y (inr w) = absurd (false≢true (sym w.0.2 ∙ N.passed w.0.0 (omega (arith, w.0.1))))
 
@@ -162,12 +154,12 @@ module _ (b : Block) (l rows : List ℕ) (P : Playing b l rows) where
     rising : Rising m x
     rising = record { each = each }
       where
-        each : (i j : ℕ) → i ≤ j → j < m → get_or x (360 + i) 0 ≤ get_or x (64 + j) 0
+        each : (i j : ℕ) → i ≤ j → j < m → get_or x.decoded (32 + i) 0 ≤ get_or x.waiting j 0
         each i j h k =
             let g : j < b.n = omega (arith, N.few) in
             let q : i + (j - i) ≡ j = omega arith in
             let o : start s (node ID i) ≤ start s (node ID j) = rw q at (decode_order b l rows P i (j - i) (omega arith)) in
-            let a : get_or x (360 + i) 0 ≡ ends b l (node ID i) = N.off_ex.decoded.each i (omega arith) in
+            let a : get_or x.decoded (32 + i) 0 ≡ ends b l (node ID i) = N.off_ex.decoded.each i (omega arith) in
             let e = ends_one b l rows P ID i (omega arith) (λ e. omega arith) in
             let f = ends_one b l rows P ID j (omega arith) (λ e. omega arith) in
             by_test (fixed x j)

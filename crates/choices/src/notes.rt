@@ -3,11 +3,12 @@ ghost use Rattle.std.specs.Prelude.{◌≡◌, ℕ, ◌≤◌, ◌<◌, length, 
 ghost use Rattle.lists.specs.Lists.{pick};
 ghost use Rattle.record.specs.declared.Block.{Block};
 ghost use Rattle.model.specs.Cycles.{units};
-ghost use Rattle.choices.specs.inside.NoteSteps.{never, UnitsFree, Narrow, fetch_of, decoded_of, decoded_into, committed_into};
+ghost use Rattle.choices.specs.inside.NoteSteps.{never, UnitsFree, fetch_of, decoded_of, decoded_into, committed_into};
 ghost use Rattle.choices.specs.inside.PlayNotes.{FirstNotes, DecodesUntil};
 
-use crate::{COMMITTED, DECODED, ENDS, FETCH, FETCHED, NEVER, WAITING};
-use unpacked::{Shape, larger, time, wide};
+use crate::play_block::PlayBlock;
+use crate::{NEVER, PAD, PlayNotes, UnitTimes};
+use unpacked::time;
 
 // How long a fetch takes.
 const FETCH_CYCLES: u32 = 1;
@@ -22,85 +23,84 @@ fn free_from(z: usize) -> u16
     if z < UNITS { 0 } else { NEVER }
 }
 
-// All units free.
-fn units_into(x: &mut [u16; 512])
-    requires { length x.old ≡ 512 }
-    ensures { UnitsFree x.old x.new }
+// All units of a kind free.
+fn units_free() -> UnitTimes
+    ensures { UnitsFree result }
 {
-    for v in 0..16usize {
-        x[ENDS + v] = free_from(v % 4);
+    UnitTimes {
+        first: free_from(0),
+        second: free_from(1),
+        third: free_from(2),
+        fourth: free_from(3),
     }
 }
 
 // The notes before the play.
-pub fn first_notes() -> [u16; 512]
+pub fn first_notes() -> PlayNotes
     ensures { FirstNotes result }
 {
-    let mut x = [0u16; 512];
-    for i in 0..60usize {
-        x[i + 1] = NEVER;
+    let mut written = [NEVER; 61];
+    written[0] = 0;
+    PlayNotes {
+        written,
+        waiting: [0; 60],
+        units: [units_free(); 4],
+        fetch: [0; 92],
+        fetched: [0; 92],
+        decoded: [0; 92],
+        committed: [0; 92],
     }
-    units_into(&mut x);
-    x
 }
 
 // The start of IF of instruction i.
-fn fetch_of(h: Shape, i: usize, x: &[u16; 512]) -> u32
-    requires { (i < 60) × Narrow h }
-    ensures { (result ≡ fetch_of h i x.now) × (result ≤ 65535) }
+#[tactic(auto, unfolding(crate::specs::inside::NoteSteps::fetch_of))]
+fn fetch_of(p: &PlayBlock, i: usize, x: &PlayNotes) -> u32
+    requires { i < 60 }
+    ensures { (result ≡ fetch_of p.now.shape i x.now) × (result ≤ 65535) }
 {
-    let q = h.q;
-    let f = h.f;
-    larger(
-        larger(wide(x[DECODED + i - q]), wide(x[FETCHED + i - f])),
-        wide(x[FETCH + i - 1]),
-    )
+    let both = x.decoded[PAD + i - p.shape.q].max(x.fetched[PAD + i - p.shape.f]);
+    u32::from(both.max(x.fetch[PAD + i - 1]))
 }
 
 // The finish of ID of instruction i, whose IF finishes at `fetched`.
-fn decoded_of(h: Shape, i: usize, fetched: u32, x: &[u16; 512]) -> u32
-    requires { (i < 60) × Narrow h × (fetched ≤ 65790) }
-    ensures { result ≡ decoded_of h i fetched x.now }
+fn decoded_of(p: &PlayBlock, i: usize, fetched: u32, x: &PlayNotes) -> u32
+    requires { (i < 60) × (fetched ≤ 65790) }
+    ensures { result ≡ decoded_of p.now.shape i fetched x.now }
 {
-    let w = h.w;
-    let d = h.d;
-    let s = larger(
-        fetched,
-        larger(wide(x[COMMITTED + i - w]), wide(x[DECODED + i - d])),
-    );
-    larger(s + 1, wide(x[DECODED + i - 1]))
+    let room = x.committed[PAD + i - p.shape.w].max(x.decoded[PAD + i - p.shape.d]);
+    let s = fetched.max(u32::from(room));
+    (s + 1).max(u32::from(x.decoded[PAD + i - 1]))
 }
 
 // IF and ID of instruction i, whose fetch takes l.
-fn decode_one(h: Shape, l: u32, i: usize, x: &mut [u16; 512])
-    requires { (i < 60) × Narrow h × (l ≤ 255) }
-    ensures { x.new ≡ decoded_into h l i x.old }
+fn decode_one(p: &PlayBlock, l: u32, i: usize, x: &mut PlayNotes)
+    requires { (i < 60) × (l ≤ 255) }
+    ensures { x.new ≡ decoded_into p.now.shape l i x.old }
 {
-    let fetch = fetch_of(h, i, x);
+    let fetch = fetch_of(p, i, x);
     let fetched = fetch + l;
-    let decoded = decoded_of(h, i, fetched, x);
-    x[FETCH + i] = time(fetch);
-    x[FETCHED + i] = time(fetched);
-    x[DECODED + i] = time(decoded);
-    x[WAITING + i] = time(decoded);
+    let decoded = decoded_of(p, i, fetched, x);
+    x.fetch[PAD + i] = time(fetch);
+    x.fetched[PAD + i] = time(fetched);
+    x.decoded[PAD + i] = time(decoded);
+    x.waiting[i] = time(decoded);
 }
 
 // IF and ID of the instructions from `from` on and below `end`.
-pub fn decode_until(h: Shape, from: usize, end: usize, x: &mut [u16; 512])
-    requires { (end ≤ 60) × Narrow h }
-    ensures { DecodesUntil h from end x.old x.new }
+pub fn decode_until(p: &PlayBlock, from: usize, end: usize, x: &mut PlayNotes)
+    requires { end ≤ 60 }
+    ensures { DecodesUntil p.now.shape from end x.old x.new }
 {
     for i in from..end {
-        decode_one(h, FETCH_CYCLES, i, x);
+        decode_one(p, FETCH_CYCLES, i, x);
     }
 }
 
 // CM of instruction i.
-pub fn commit_one(h: Shape, i: usize, x: &mut [u16; 512])
-    requires { (i < 60) × Narrow h }
-    ensures { x.new ≡ committed_into h i x.old }
+pub fn commit_one(p: &PlayBlock, i: usize, x: &mut PlayNotes)
+    requires { i < 60 }
+    ensures { x.new ≡ committed_into p.now.shape i x.old }
 {
-    let c = h.c;
-    let s = larger(wide(x[i + 1]), wide(x[COMMITTED + i - c]));
-    x[COMMITTED + i] = time(larger(s + 1, wide(x[COMMITTED + i - 1])));
+    let s = u32::from(x.written[i + 1].max(x.committed[PAD + i - p.shape.c]));
+    x.committed[PAD + i] = time((s + 1).max(u32::from(x.committed[PAD + i - 1])));
 }

@@ -14,9 +14,10 @@ use Rattle.record.specs.declared.Block.{Block}
 use Rattle.model.specs.Nodes.{EX, node, instruction, is_ex, entry, chosen, finish_into, order_into, nodes}
 use Rattle.model.specs.Cycles.{not_started, start, started, finish, free, begins, ready}
 use Rattle.unpacked.specs.inside.UnpackedBlock.{Unpacked}
-use Rattle.unpacked.specs.declared.Shape.{Shape}
+use Rattle.unpacked.specs.declared.UnpackedBlock.{UnpackedBlock}
 use Rattle.model.proofs.Latencies.{stage_node, instruction_node, chosen_if, chosen_else, chosen_ex}
 use Rattle.unpacked.proofs.ReadyTimes.{ready_if_lem, ready_id_lem, ready_ex_lem, ready_wb_lem, ready_cm_lem}
+use Rattle.unpacked.specs.inside.StageNumbers.{number}
 use Rattle.cycles.specs.inside.NodeTurn.{stage_ready, from_when, node_of, starting}
 use Rattle.cycles.specs.inside.PlayFacts.{Timed, Units}
 use Rattle.cycles.specs.declared.Turn.{Turn}
@@ -83,35 +84,35 @@ module _ (t : ℕ) (s : List ℕ) (w : Timed t s) where
         and_four (not (started s v)) _ (all (started s) (order_into b v)) _
         ∙ ap (λ (x : Bool). not (started s v) && (x && (not (is_ex v) || free b lat t s (entry b (instruction v)).kind))) (waits b A v l)
 
-module _ (b : Block) (h : Shape) (u : List ℕ) (U : Unpacked b h u) (l : List ℕ) where
+module _ (b : Block) (u : UnpackedBlock) (U : Unpacked b u.shape u.instructions) (l : List ℕ) where
   -- what the code works out is the model's ready time
-  stage_ready_lem : (s : List ℕ) (i g : ℕ) → i < b.n → g < 5 → stage_ready h u l s i g ≡ ready b (chosen b l) s (node g i)
+  stage_ready_lem : (s : List ℕ) (i g : ℕ) → i < b.n → g < 5 → stage_ready u l s i g ≡ ready b (chosen b l) s (node g i)
   unfolding stage_ready
   stage_ready_lem s i g m k =
       let fetches = chosen_if b l in
       let one = chosen_else b l in
-      each (λ (x : ℕ). stage_ready h u l s i x ≡ ready b (chosen b l) s (node x i)) 5
+      each (λ (x : ℕ). stage_ready u l s i x ≡ ready b (chosen b l) s (node x i)) 5
       (rw (U.shape.q, U.shape.f) (sym (ready_if_lem b (chosen b l) fetches one s i))
       ▹ rw (U.shape.w, U.shape.d) (sym (ready_id_lem b (chosen b l) fetches one s i))
-      ▹ rw (U.columns.first i m, U.columns.second i m) (sym (ready_ex_lem b (chosen b l) fetches one s i))
+      ▹ rw (U.instructions.first i m, U.instructions.second i m) (sym (ready_ex_lem b (chosen b l) fetches one s i))
       ▹ rw (← chosen_ex b l i) (sym (ready_wb_lem b (chosen b l) fetches one s i))
       ▹ rw U.shape.c (sym (ready_cm_lem b (chosen b l) fetches one s i))
       ▹ end)
       g k
 
   -- what the code tests is what the model does
-  pub begins_starting : (x : Turn) (s ends : List ℕ) → Timed x.t s → Units b (chosen b l) x.t s ends → x.i < b.n → x.g < 5
-      → begins b (chosen b l) x.t s (node_of x) ≡ starting h u l x s ends
+  pub begins_starting : (x : Turn) (s ends : List ℕ) → Timed x.t s → Units b (chosen b l) x.t s ends → x.i < b.n → number x.g < 5
+      → begins b (chosen b l) x.t s (node_of x) ≡ starting u l x s ends
   unfolding starting from_when
   begins_starting x s ends w o m k =
       let t = x.t in
       let i = x.i in
-      let g = x.g in
+      let g = number x.g in
       begins_ready t s w (chosen b l) b (ranges b U.accepted) (node g i) (omega arith)
       ∙ ap (λ (y : Bool). not (started s (node g i)) && y)
       (rw (stage_node g i k, instruction_node g i k, stage_ready_lem s i g m k)
       (by_test (eqb g EX)
       (λ e.
-      rw (e, U.columns.kind i m, o.free (entry b i).kind t (omega arith))
+      rw (e, U.instructions.kind i m, o.free (entry b i).kind t (omega arith))
       (both_le (ready b (chosen b l) s (node g i)) (get_or ends (entry b i).kind 0) t))
       (λ e. rw (e, and-true) refl)))

@@ -17,7 +17,8 @@ use Rattle.record.specs.declared.Block.{Block}
 use Rattle.model.specs.Nodes.{EX, node, entry, chosen}
 use Rattle.model.specs.Cycles.{not_started, start, started, finish, runs, units, free}
 use Rattle.cycles.specs.inside.PlayFacts.{Timed, Units}
-use Rattle.unpacked.specs.inside.UnpackedBlock.{kind_of, Columns}
+use Rattle.unpacked.specs.declared.Instruction.{Instruction}
+use Rattle.unpacked.specs.inside.UnpackedBlock.{kind_of, Instructions}
 use Rattle.model.proofs.Latencies.{chosen_ex}
 use Rattle.cycles.proofs.NodeTest.{both_le}
 use Rattle.cycles.proofs.UnitsHeld.{holds}
@@ -54,7 +55,7 @@ not_ltb t f =
     (λ e. rw (e, le-ltb t f (leb-true f t e)) refl)
     (λ e. rw (e, lt-ltb t f (leb-false f t e)) refl)
 
-module _ (b : Block) (u l : List ℕ) (C : Columns b u) (t : ℕ) (s : List ℕ) (w : Timed t s) (m : ℕ) (few : m < b.n) (sixty : b.n ≤ 60) where
+module _ (b : Block) (u : List Instruction) (l : List ℕ) (C : Instructions b u) (t : ℕ) (s : List ℕ) (w : Timed t s) (m : ℕ) (few : m < b.n) (sixty : b.n ≤ 60) where
   abbrev x : ℕ
   x = start s (node EX m)
 

@@ -19,7 +19,8 @@ use Rattle.record.proofs.AcceptedRanges.{Ranges, ranges}
 use Rattle.model.specs.Nodes.{EX, node, entry, chosen}
 use Rattle.model.specs.Cycles.{not_started, started, finish, runs, units, free}
 use Rattle.unpacked.specs.inside.UnpackedBlock.{kind_of, Unpacked}
-use Rattle.unpacked.specs.declared.Shape.{Shape}
+use Rattle.unpacked.specs.declared.UnpackedBlock.{UnpackedBlock}
+use Rattle.unpacked.specs.inside.StageNumbers.{number}
 use Rattle.cycles.specs.inside.NodeTurn.{stage_ready, from_when, ended, node_of, starting}
 use Rattle.cycles.specs.inside.PlayFacts.{Timed, Units}
 use Rattle.cycles.specs.declared.Turn.{Turn}
@@ -99,7 +100,7 @@ module _ (b : Block) (lat : ℕ → ℕ) (t : ℕ) (s : List ℕ) (early : t < n
           (λ e. rw (eqb-true j i e, runs_own lat t' s t i long early m, le-ltb t' (t + lat (node EX i)) done, and-false) refl)
           (λ e. rw (runs_other lat t' s (node EX i) t j (λ q. eqb-false j i e (omega arith))) (none_free b lat t' s k f j l))
 
-module _ (b : Block) (h : Shape) (u : List ℕ) (U : Unpacked b h u) (l : List ℕ) where
+module _ (b : Block) (u : UnpackedBlock) (U : Unpacked b u.shape u.instructions) (l : List ℕ) where
   A : Ranges b
   A = ranges b U.accepted
 
@@ -142,21 +143,21 @@ module _ (b : Block) (h : Shape) (u : List ℕ) (U : Unpacked b h u) (l : List �
         }
 
   -- a node that starts holds its unit until its finish
-  pub units_start : (x : Turn) (s ends : List ℕ) → length s ≡ 300 → Timed x.t s → Units b (chosen b l) x.t s ends → x.i < b.n → x.g < 5
-      → starting h u l x s ends ≡ true
-      → Units b (chosen b l) x.t (set s (node_of x) x.t) (ended ends x.g (kind_of u x.i) (get_or l x.i 0) x.t)
+  pub units_start : (x : Turn) (s ends : List ℕ) → length s ≡ 300 → Timed x.t s → Units b (chosen b l) x.t s ends → x.i < b.n → number x.g < 5
+      → starting u l x s ends ≡ true
+      → Units b (chosen b l) x.t (set s (node_of x) x.t) (ended ends (number x.g) (kind_of u.instructions x.i) (get_or l x.i 0) x.t)
   unfolding ended starting from_when
   units_start x s ends long w o m q c =
       let t = x.t in
       let i = x.i in
-      let g = x.g in
-      let e = get_or ends (kind_of u i) 0 in
-      let kind = U.columns.kind i m in
-      let can : leb (pick (eqb g EX) (max (stage_ready h u l s i g) e) (stage_ready h u l s i g)) t ≡ true
+      let g = number x.g in
+      let e = get_or ends (kind_of u.instructions i) 0 in
+      let kind = U.instructions.kind i m in
+      let can : leb (pick (eqb g EX) (max (stage_ready u l s i g) e) (stage_ready u l s i g)) t ≡ true
       = and_right (not (started s (node g i))) _ c in
       by_test (eqb g EX)
       (λ f.
       let ex : g ≡ EX = eqb-true g EX f in
-      let le : e ≤ t = omega (arith, leb-true (max (stage_ready h u l s i g) e) t (rw f at can)) in
+      let le : e ≤ t = omega (arith, leb-true (max (stage_ready u l s i g) e) t (rw f at can)) in
       rw (ex, kind) (start_ex t s ends long w o i m (rw kind at le)))
       (λ f. rw f (start_other t s ends long w o i m g q (eqb-false g EX f)))

@@ -21,14 +21,14 @@ use Rattle.record.specs.Refusals.{
   written,
 }
 use Rattle.record.specs.Promises.{Writes}
-use Rattle.record.specs.declared.Answer.TheVariants.{Accepted}
+use Rattle.std.specs.Prelude.{Ok as Accepted}
 use Rattle.record.proofs.BlockValues.{decoded_whole}
 use Rattle.record.proofs.RoundTrips.{block_decoded}
 use Rattle.record.proofs.Verdicts.{both_accepted, after_accepted, read_place, fine}
 use Rattle.analysis.specs.Result.{analyse_tests, window_tests, analysed, tabled}
 use Rattle.analysis.specs.Promises.{Analyses, WritesWindows}
 use Rattle.play.specs.Refusals.{list_tests, play_tests, length_tests}
-use Rattle.play.specs.Promises.{played, play_length_given, Plays, GivesPlayLength}
+use Rattle.play.specs.Promises.{played, Plays, GivesPlayLength}
 use Rattle.exports.specs.Doors.{coded, Door, record_room, windows_room, play_room, ChecksBytes, RecodesBytes, AnalysesBytes, WindowsBytes, PlaysBytes, PlayLengthBytes}
 use Rattle.exports.proofs.DoorVerdicts.{none_place, output_place, list_place}
 
@@ -115,32 +115,32 @@ module _ {A : Type 0} (s : List ℕ) (more : List Test) (made o p : A) (u : Door
 -- IT IS THE OPERATION ON THE BLOCK OF THE BYTES, ACCEPTED
 module _ (s : List ℕ) where
   module _ (o p : List ℕ) where
-    pub recode_opens : RecodesBytes s o 0 p → Writes (decoded s) o Accepted p
+    pub recode_opens : RecodesBytes s o 0 p → Writes (decoded s) o (Accepted tt) p
     unfolding write_tests written
     recode_opens u =
         let z = block_passes s _ _ o p u in
         record { whole = decoded_whole s u.bytes; answer = sym z; output = is_made s _ _ o p u ∙ (rw z refl) }
 
-    pub analyse_opens : AnalysesBytes s o 0 p → Analyses (decoded s) o Accepted p
+    pub analyse_opens : AnalysesBytes s o 0 p → Analyses (decoded s) o (Accepted tt) p
     unfolding analyse_tests analysed
     analyse_opens u =
         let z = block_passes s _ _ o p u in
         record { whole = decoded_whole s u.bytes; answer = sym z; output = is_made s _ _ o p u ∙ (rw z refl) }
 
-    pub windows_opens : WindowsBytes s o 0 p → WritesWindows (decoded s) o Accepted p
+    pub windows_opens : WindowsBytes s o 0 p → WritesWindows (decoded s) o (Accepted tt) p
     unfolding window_tests tabled
     windows_opens u =
         let z = block_passes s _ _ o p u in
         record { whole = decoded_whole s u.bytes; answer = sym z; output = is_made s _ _ o p u ∙ (rw z refl) }
 
-    pub play_opens : (l : List ℕ) → PlaysBytes s l o 0 p → Plays (decoded s) l o Accepted p
+    pub play_opens : (l : List ℕ) → PlaysBytes s l o 0 p → Plays (decoded s) l o (Accepted tt) p
     unfolding play_tests played
     play_opens l u =
         let z = block_passes s _ _ o p u in
         record { whole = decoded_whole s u.bytes; answer = sym z; output = is_made s _ _ o p u ∙ (rw z refl) }
 
-  pub play_length_opens : (l : List ℕ) (o p : ℕ) → PlayLengthBytes s l o 0 p → GivesPlayLength (decoded s) l (record { answer = Accepted; cycles = p })
-  unfolding length_tests play_length_given
+  pub play_length_opens : (l : List ℕ) (o p : ℕ) → PlayLengthBytes s l o 0 p → GivesPlayLength (decoded s) l (Accepted p)
+  unfolding length_tests
   play_length_opens l o p u =
       let z = block_passes s _ _ o p u in
-      record { whole = decoded_whole s u.bytes; answer = sym z; cycles = is_made s _ _ o p u ∙ (rw z refl) }
+      record { whole = decoded_whole s u.bytes; answer = sym z; cycles = is_made s _ _ o p u }

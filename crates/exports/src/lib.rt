@@ -3,23 +3,29 @@
 #![tactic(auto)]
 
 ghost use Rattle.std.specs.Prelude.{◌≡◌, ◌<◌};
-ghost use Rattle.record.specs.Refusals.{meaning};
+ghost use Rattle.record.specs.Refusals.{number_of, place_of, meaning};
 ghost use Rattle.exports.specs.Doors.{coded, ChecksBytes, RecodesBytes, AnalysesBytes, WindowsBytes, PlaysBytes, PlayLengthBytes};
 
-use record::Answer;
+use record::Reason;
 
 // A refusal's number and place as one number.
-fn one_number(a: Answer) -> u32
+fn refused(r: Reason) -> u32
+    requires { place_of r < 65536 }
+    ensures { result ≡ coded (number_of r, place_of r) }
+{
+    let number = record::number_of(r);
+    let place = record::place_of(r);
+    u32::from(number) * 65536 + place as u32
+}
+
+// The same of an answer, 0 where it accepts.
+fn one_number(a: Result<(), Reason>) -> u32
     requires { (meaning a).1 < 65536 }
     ensures { result ≡ coded (meaning a) }
 {
     match a {
-        Answer::Accepted => 0,
-        Answer::Refused(r) => {
-            let number = record::number_of(r);
-            let place = record::place_of(r);
-            number as u32 * 65536 + place as u32
-        }
+        Ok(()) => 0,
+        Err(r) => refused(r),
     }
 }
 
@@ -27,21 +33,19 @@ fn one_number(a: Answer) -> u32
 pub fn bench_check(s: &[u8]) -> u32
     ensures { ChecksBytes s.now result }
 {
-    let r = reader::read(s);
-    let answer = r.answer;
-    one_number(answer)
+    match reader::read(s) {
+        Ok(_) => 0,
+        Err(r) => refused(r),
+    }
 }
 
 // Reads a record and writes the record of what it read, to 512 bytes.
 pub fn bench_recode(s: &[u8], out: &mut [u8]) -> u32
     ensures { RecodesBytes s.now out.old result out.new }
 {
-    let r = reader::read(s);
-    let answer = r.answer;
-    let b = r.block;
-    match answer {
-        Answer::Refused(_) => one_number(answer),
-        Answer::Accepted => one_number(writer::write(b, out)),
+    match reader::read(s) {
+        Ok(b) => one_number(writer::write(b, out)),
+        Err(r) => refused(r),
     }
 }
 
@@ -49,12 +53,9 @@ pub fn bench_recode(s: &[u8], out: &mut [u8]) -> u32
 pub fn bench_analyse(s: &[u8], out: &mut [u8]) -> u32
     ensures { AnalysesBytes s.now out.old result out.new }
 {
-    let r = reader::read(s);
-    let answer = r.answer;
-    let b = r.block;
-    match answer {
-        Answer::Refused(_) => one_number(answer),
-        Answer::Accepted => one_number(analysis::analyse(b, out)),
+    match reader::read(s) {
+        Ok(b) => one_number(analysis::analyse(b, out)),
+        Err(r) => refused(r),
     }
 }
 
@@ -62,12 +63,9 @@ pub fn bench_analyse(s: &[u8], out: &mut [u8]) -> u32
 pub fn bench_windows(s: &[u8], out: &mut [u16]) -> u32
     ensures { WindowsBytes s.now out.old result out.new }
 {
-    let r = reader::read(s);
-    let answer = r.answer;
-    let b = r.block;
-    match answer {
-        Answer::Refused(_) => one_number(answer),
-        Answer::Accepted => one_number(analysis::windows(b, out)),
+    match reader::read(s) {
+        Ok(b) => one_number(analysis::windows(b, out)),
+        Err(r) => refused(r),
     }
 }
 
@@ -75,12 +73,9 @@ pub fn bench_windows(s: &[u8], out: &mut [u16]) -> u32
 pub fn bench_play(s: &[u8], lat: &[u8], out: &mut [u16]) -> u32
     ensures { PlaysBytes s.now lat.now out.old result out.new }
 {
-    let r = reader::read(s);
-    let answer = r.answer;
-    let b = r.block;
-    match answer {
-        Answer::Refused(_) => one_number(answer),
-        Answer::Accepted => one_number(play::play(b, lat, out)),
+    match reader::read(s) {
+        Ok(b) => one_number(play::play(b, lat, out)),
+        Err(r) => refused(r),
     }
 }
 
@@ -88,21 +83,14 @@ pub fn bench_play(s: &[u8], lat: &[u8], out: &mut [u16]) -> u32
 pub fn bench_play_length(s: &[u8], lat: &[u8], out: &mut u16) -> u32
     ensures { PlayLengthBytes s.now lat.now out.old result out.new }
 {
-    let r = reader::read(s);
-    let answer = r.answer;
-    let b = r.block;
-    match answer {
-        Answer::Refused(_) => one_number(answer),
-        Answer::Accepted => {
-            let l = play::play_length(b, lat);
-            let played = l.answer;
-            match played {
-                Answer::Refused(_) => one_number(played),
-                Answer::Accepted => {
-                    *out = l.cycles;
-                    0
-                }
+    match reader::read(s) {
+        Ok(b) => match play::play_length(b, lat) {
+            Ok(cycles) => {
+                *out = cycles;
+                0
             }
-        }
+            Err(r) => refused(r),
+        },
+        Err(r) => refused(r),
     }
 }

@@ -95,3 +95,7 @@ module _ {A : Type 0} (w a : ℕ) (f : ℕ → List A) (o : List A) where
 
     pub pieces_all : (n : ℕ) → pieces_in w a f o n ≡ put o a (joined n f)
     pieces_all n = rw (length_joined w f wide n) refl
+
+-- a part of a list, from a on and k long, copied over
+pub part_put : {A : Type 0} (a k : ℕ) (o xs ys : List A) → ys ≡ xs → k ≡ length xs → take a o ++ (ys ++ drop k (drop a o)) ≡ put o a xs
+part_put a k o xs ys e h = rw (e, h, drop-drop (length xs) a o) (sym (append_assoc (take a o) xs _))

@@ -5,8 +5,9 @@ use mathlib.Core.Bool.{Bool, true, false, false≢true}
 use Prim.Native.Nat.{ℕ, zero, suc, ◌+◌, ◌-◌, ◌≤◌, ◌<◌}
 use native.Mathlib.Omega.{arith}
 use lib.Dec.{ltb}
-use borrow.Author.Tests.{ltb-true, ltb-false, le-ltb}
-use Rattle.lists.specs.Lists.{least_from, least, exists}
+use borrow.Author.Tests.{ltb-true, ltb-false, le-ltb, lt-ltb}
+use Rattle.std.specs.Prelude.{Option, Some, None, unwrap_or}
+use Rattle.lists.specs.Lists.{least_from, least, first_at, exists}
 use Rattle.lists.proofs.Bools.{by_test}
 
 module _ (p : ℕ → Bool) where
@@ -138,3 +139,39 @@ module _ (a b : ℕ) (p : ℕ → Bool) where
   pub exists_none : a ≤ b → ((v : ℕ) → a ≤ v → v < b → p v ≡ false) → exists a b p ≡ false
   unfolding exists
   exists_none l h = le-ltb (least a b p) b (omega (arith, least_none a b p l h))
+
+-- ---- the first number at which a test holds, if there is one
+module _ (a b : ℕ) (p : ℕ → Bool) where
+  pub first_here : (i : ℕ) → a ≤ i → i < b → ((k : ℕ) → a ≤ k → k < i → p k ≡ false) → p i ≡ true → first_at a b p ≡ Some i
+  unfolding first_at
+  first_here i l h u t = rw (least_here a b p i l h u t, lt-ltb i b h) refl
+
+  pub first_none : a ≤ b → ((k : ℕ) → a ≤ k → k < b → p k ≡ false) → first_at a b p ≡ None
+  unfolding first_at
+  first_none l u = rw (least_none a b p l u, le-ltb b b (omega arith)) refl
+
+  -- by what it is: where the walk stopped
+  pub stopped_at : (i : ℕ) → first_at a b p ≡ Some i → (i ≡ least a b p) × (i < b)
+  unfolding first_at
+  stopped_at i e =
+      by_test (ltb (least a b p) b)
+      (λ t.
+      let q : ◌≡◌ {A = Option ℕ} (Some (least a b p)) (Some i) = rw t at e in
+      let s : least a b p ≡ i = cc in
+      (sym s, omega (arith, ltb-true _ _ t, s)))
+      (λ t. let q : ◌≡◌ {A = Option ℕ} None (Some i) = rw t at e in cc)
+
+  pub stopped_not : first_at a b p ≡ None → b ≤ least a b p
+  unfolding first_at
+  stopped_not e =
+      by_test (ltb (least a b p) b)
+      (λ t. let q : ◌≡◌ {A = Option ℕ} (Some (least a b p)) None = rw t at e in cc)
+      (λ t. ltb-false _ _ t)
+
+  -- the end of the walk where there is none
+  pub first_or : a ≤ b → unwrap_or (first_at a b p) b ≡ least a b p
+  unfolding first_at
+  first_or l =
+      by_test (ltb (least a b p) b)
+      (λ t. rw t refl)
+      (λ t. rw t (omega (arith, least_most a b p l, ltb-false _ _ t)))

@@ -11,3 +11,4 @@ pub mod Fronts
 pub mod Elements
 pub mod BufferFill
 pub mod OneOutcome
+pub mod FirstWalk

@@ -1,6 +1,6 @@
 -- A number and its little-endian bytes, for every width. Assumes nothing.
 use mathlib.Core.Path.{◌≡◌, refl, ap, ◌∙◌}
-use mathlib.Core.List.{List, ◌∷◌}
+use mathlib.Core.List.{List, [], ◌∷◌}
 use Prim.Native.Nat.{ℕ, zero, suc, ◌+◌, ◌*◌, ◌/◌, ◌%◌, ◌^◌, ◌<◌}
 use native.Mathlib.Nat.{add-zero, zero-add, pow-zero, pow-suc, div-lt_iff_lt-mul}
 use native.Mathlib.Numerals.{one-add}
@@ -50,3 +50,11 @@ pub little_below : (w : ℕ) (s : List ℕ) (i : ℕ) → ((k : ℕ) → get_or 
 unfolding little
 little_below zero s i u = omega (arith, pow-zero 256)
 little_below (suc w) s i u = rw pow-suc (omega (arith, u i, little_below w s (i + 1) u))
+
+-- the four bytes as the machine takes them
+pub four_bytes : (x : ℕ) → x % 256 ∷ x / 256 % 256 ∷ x / 65536 % 256 ∷ x / 16777216 % 256 ∷ [] ≡ bytes 4 x
+unfolding bytes
+four_bytes x =
+    let third : x / 65536 ≡ x / 256 / 256 = omega arith in
+    let last : x / 16777216 ≡ x / 256 / 256 / 256 = omega arith in
+    rw (third, last) refl

@@ -1,6 +1,6 @@
 -- Lists by index: a table, pieces joined, a part put in place, the first number at which a test holds, what is in a list, the
 -- numbers at which a test holds, a list built in order.
-use Rattle.std.specs.Prelude.{ℕ, zero, suc, ◌+◌, ◌-◌, ◌≡◌, ◌⊎◌, Bool, true, false, List, [], ◌∷◌, ◌++◌, length, take, drop, ltb}
+use Rattle.std.specs.Prelude.{ℕ, zero, suc, ◌+◌, ◌-◌, ◌≡◌, ◌⊎◌, Bool, true, false, List, [], ◌∷◌, ◌++◌, length, take, drop, ltb, Option, Some, None}
 
 -- the first where the test holds, else the second
 abbrev pub pick : {A : Type 0} → Bool → A → A → A
@@ -33,6 +33,10 @@ least_from p i (suc n) = pick (p i) i (least_from p (suc i) n)
 -- the least k from a on and below b at which p holds; where there is none, b
 unfoldable pub least : ℕ → ℕ → (ℕ → Bool) → ℕ
 least a b p = least_from p a (b - a)
+
+-- the same where there is one, else none
+unfoldable pub first_at : ℕ → ℕ → (ℕ → Bool) → Option ℕ
+first_at a b p = pick (ltb (least a b p) b) (Some (least a b p)) None
 
 -- x is one of a list's
 abbrev pub In : {A : Type 0} → A → List A → Type 0

@@ -1,16 +1,13 @@
--- The table of the chains of registers, row by row: one row's stores, one step of the table, and the contenders that it tells.
+-- The table of the chains of registers, row by row: one step of the table, and the contenders that it tells.
 -- Assumes nothing.
-use Prim.Native.Nat.{ℕ, ◌*◌, ◌+◌, ◌-◌, ◌<◌, ◌≤◌, suc, zero}
+use Prim.Native.Nat.{ℕ, ◌+◌, ◌-◌, ◌<◌, ◌≤◌, suc, zero}
 use mathlib.Core.Path.{◌∙◌, ◌≡◌, ap, refl, sym}
 use mathlib.Core.Bool.{◌&&◌, ◌||◌, Bool, and-false, false, not, or_comm, or-false, or-true, true}
 use mathlib.Core.List.{◌∷◌, List, []}
 use mathlib.Core.Logic.{◌⊎◌, inl, inr}
 use native.Mathlib.Omega.{arith}
 use lib.Dec.{eqb, leb}
-use lib.ListN.{get_or, length, set}
-use lib.Seq.{get_or-set_other, get_or-set_same}
 use borrow.Author.Tests.{eq-eqb, eqb-false, eqb-true, le-leb, lt-leb, ne_eqb}
-use borrow.Author.Count.{below_more}
 use Rattle.lists.specs.Lists.{numbers_where}
 use Rattle.lists.specs.Sums.{any}
 use Rattle.lists.proofs.Bools.{by_test}
@@ -23,33 +20,11 @@ use Rattle.model.specs.Paths.{contending, has}
 use Rattle.model.specs.inside.RegisterChains.{chains}
 use Rattle.model.proofs.Chains.{chains_is, contending_chains}
 use Rattle.model.proofs.Contention.{contending_even}
+use Rattle.unpacked.specs.declared.Instruction.{Instruction}
 use Rattle.unpacked.specs.declared.Shape.{Shape}
 use Rattle.unpacked.specs.inside.UnpackedBlock.{Unpacked, code, kind_of}
-use Rattle.pairs.specs.inside.PairRows.{ChainRows}
+use Rattle.pairs.specs.inside.PairRows.{ChainRows, chain_at}
 use Rattle.pairs.specs.inside.RowSteps.{nearby}
-
--- ---- stores in a row that begins at `at`
-module _ (a : List Bool) (at : ℕ) where
-  -- what stands before the row is kept
-  pub before_row : (i : ℕ) (v : Bool) (f : ℕ → Bool) → at ≤ i → ((u : ℕ) → u < at → get_or a u false ≡ f u)
-      → (u : ℕ) → u < at → get_or (set a i v) u false ≡ f u
-  before_row i v f l h u q = get_or-set_other a i u v false (λ e. omega arith) ∙ h u q
-
-  -- one element more
-  pub row_more : (k : ℕ) (v : Bool) (f : ℕ → Bool) → at + k < length a → ((u : ℕ) → u < k → get_or a (at + u) false ≡ f u) → v ≡ f k
-      → (u : ℕ) → u < k + 1 → get_or (set a (at + k) v) (at + u) false ≡ f u
-  row_more k v f l h e =
-      below_more (λ u. get_or (set a (at + k) v) (at + u) false ≡ f u) k
-      (λ u q. get_or-set_other a (at + k) (at + u) v false (λ x. omega arith) ∙ h u q)
-      (get_or-set_same a (at + k) v false l ∙ e)
-
-  -- one element of a whole row made true
-  pub row_mark : (x m : ℕ) (f : ℕ → Bool) → at + x < length a → ((u : ℕ) → u < m → get_or a (at + u) false ≡ f u)
-      → (u : ℕ) → u < m → get_or (set a (at + x) true) (at + u) false ≡ (f u || eqb u x)
-  row_mark x m f l h u q =
-      by_test (eqb u x)
-      (λ t. rw (t, eqb-true u x t, get_or-set_same a (at + x) true false l) (sym (or-true (f x))))
-      (λ t. rw t (get_or-set_other a (at + x) (at + u) true false (λ e. eqb-false u x t (omega arith)) ∙ h u q ∙ sym (or-false (f u))))
 
 -- ---- one step of the table
 or_four : (a b c d : Bool) → (a || b || (c || d)) ≡ (a || c || b || d)
@@ -77,22 +52,21 @@ module _ (b : Block) where
   unfolding source
   source_one r j = by_test (eqb r 255) (λ t. rw t (inl refl)) (λ t. rw t (writer_one r j))
 
-  -- a source of j, from its row: a has row x of the table at 64 x
-  module _ (a : List Bool) (j i : ℕ) (hi : i < 63) (none : (k : ℕ) → k < 64 → get_or a k false ≡ false)
-      (rows : (x : ℕ) → x < j → get_or a (64 * (x + 1) + (i + 1)) false ≡ has (chains b) x i) where
+  -- a source of j, from its row
+  module _ (a : List (List Bool)) (j i : ℕ) (hi : i < 63) (none : (k : ℕ) → k < 64 → chain_at a 0 k ≡ false)
+      (rows : (x : ℕ) → x < j → chain_at a (x + 1) (i + 1) ≡ has (chains b) x i) where
     from_one : (xs : List ℕ) → One xs → code xs ≤ j
-        → any (λ x. eqb x i || has (chains b) x i) xs ≡ (get_or a (64 * code xs + (i + 1)) false || eqb (i + 1) (code xs))
+        → any (λ x. eqb x i || has (chains b) x i) xs ≡ (chain_at a (code xs) (i + 1) || eqb (i + 1) (code xs))
     unfolding any code
     from_one xs (inl e) h =
-        let z : 64 * 0 + (i + 1) ≡ i + 1 = omega arith in
-        rw (e, z, none (i + 1) (omega arith), ne_eqb (i + 1) 0 (λ q. omega arith)) refl
+        rw (e, none (i + 1) (omega arith), ne_eqb (i + 1) 0 (λ q. omega arith)) refl
     from_one xs (inr (x, e)) h =
         let l : x < j = omega (arith, ap code e) in
         rw (e, rows x l, eqb_next x i, or-false) (or_comm (eqb x i) (has (chains b) x i))
 
     pub chains_next : i < b.n → j < b.n → (x y : ℕ) → x ≤ j → y ≤ j
         → x ≡ code (source b (entry b j).reads1 j) → y ≡ code (source b (entry b j).reads2 j)
-        → has (chains b) j i ≡ (get_or a (64 * x + (i + 1)) false || get_or a (64 * y + (i + 1)) false || eqb (i + 1) x || eqb (i + 1) y)
+        → has (chains b) j i ≡ (chain_at a x (i + 1) || chain_at a y (i + 1) || eqb (i + 1) x || eqb (i + 1) y)
     unfolding sources
     chains_next li lj x y lx ly ex ey =
         let xs = source b (entry b j).reads1 j in
@@ -101,10 +75,10 @@ module _ (b : Block) where
         let t = from_one ys (source_one (entry b j).reads2 j) (omega arith) in
         chains_is b i j li lj
         ∙ any_append (λ z. eqb z i || has (chains b) z i) xs ys
-        ∙ rw (s, t, ← ex, ← ey) (or_four (get_or a (64 * x + (i + 1)) false) (eqb (i + 1) x) (get_or a (64 * y + (i + 1)) false) (eqb (i + 1) y))
+        ∙ rw (s, t, ← ex, ← ey) (or_four (chain_at a x (i + 1)) (eqb (i + 1) x) (chain_at a y (i + 1)) (eqb (i + 1) y))
 
 -- ---- the contenders before j, from the table
-pub nearby_contending : (b : Block) (h : Shape) (u : List ℕ) (a : List Bool) → Unpacked b h u → ChainRows b a
+pub nearby_contending : (b : Block) (h : Shape) (u : List Instruction) (a : List (List Bool)) → Unpacked b h u → ChainRows b a
     → (j : ℕ) → j < b.n → nearby b.w u a j ≡ numbers_where 0 j (has (contending b) j)
 unfolding nearby
 nearby_contending b h u a U table j l =
@@ -120,7 +94,7 @@ nearby_contending b h u a U table j l =
     A = ranges b U.accepted
 
     same : (i : ℕ) → i < b.n → kind_of u i ≡ (entry b i).kind
-    same = U.columns.kind
+    same = U.instructions.kind
 
     contending_row : (k : ℕ) → k < j → has (contending b) j k ≡ (eqb (entry b k).kind (entry b j).kind && not (leb (k + b.w) j || has (chains b) j k))
     contending_row k g = contending_even b j k l (omega arith) ∙ contending_chains b A k j g l

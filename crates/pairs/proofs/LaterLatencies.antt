@@ -14,6 +14,7 @@ use Rattle.lists.proofs.Bools.{by_test, or_second}
 use Rattle.lists.proofs.Fronts.{any_more}
 use Rattle.lists.proofs.NumbersWhere.{numbers_where_any, numbers_where_more}
 use Rattle.lists.proofs.Sums.{largest_append}
+use Rattle.pairs.specs.declared.row.Row.{Row}
 use Rattle.pairs.specs.inside.PairRows.{Rows}
 
 -- ---- one row: each of its instructions is raised to x
@@ -76,6 +77,6 @@ module _ (p : ℕ → ℕ → Bool) (f : ℕ → ℕ) (i : ℕ) where
       last false a y = refl
 
 -- the same number of rows under another name
-pub later_same : (n m : ℕ) → n ≡ m → (p : ℕ → ℕ → Bool) (list count : List ℕ) (f : ℕ → ℕ) (i r : ℕ)
-    → (Rows n p list count → i < n → r ≡ later_of p f i n) → Rows m p list count → i < m → r ≡ later_of p f i m
-later_same n m e p list count f i r h R l = rw (← e) (h (rw e R) (rw e l))
+pub later_same : (n m : ℕ) → n ≡ m → (p : ℕ → ℕ → Bool) (rows : List Row) (f : ℕ → ℕ) (i r : ℕ)
+    → (Rows n p rows → i < n → r ≡ later_of p f i n) → Rows m p rows → i < m → r ≡ later_of p f i m
+later_same n m e p rows f i r h R l = rw (← e) (h (rw e R) (rw e l))

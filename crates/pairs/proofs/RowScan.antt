@@ -1,35 +1,18 @@
--- A row walked from its front: none passed so far, one found, and those kept moved to the front. Assumes nothing.
+-- A row walked from its front: those kept moved to the front. Assumes nothing.
 use Prim.Native.Nat.{ℕ, ◌+◌, ◌<◌, ◌≤◌}
 use mathlib.Core.Path.{◌∙◌, ◌≡◌, ap, refl, sym}
-use mathlib.Core.Bool.{Bool, false, true}
+use mathlib.Core.Bool.{Bool}
 use mathlib.Core.List.{◌++◌, ◌∷◌, List, [], append-nil}
 use native.Mathlib.Omega.{arith}
 use native.Mathlib.Nat.{add-zero}
-use lib.ListN.{drop, get_or, length, length-drop, length-set, set, take}
-use lib.Seq.{drop-drop, drop-set-lt, get_or-drop, get_or-set_same, get_or-take, length-take-le, take-set-le}
+use lib.ListN.{drop, get_or, length, length-set, set, take}
+use lib.Seq.{drop-drop, drop-set-lt, get_or-drop, get_or-set_same, take-set-le}
 use Rattle.lists.specs.Lists.{pick}
-use Rattle.lists.specs.Sums.{any}
 use Rattle.lists.specs.inside.Kept.{kept}
 use Rattle.lists.proofs.Bools.{by_test}
-use Rattle.lists.proofs.Elements.{get_or_in}
-use Rattle.lists.proofs.Fronts.{any_more, kept_more}
+use Rattle.lists.proofs.Fronts.{kept_more}
 use Rattle.lists.proofs.JoinedPieces.{take_snoc}
-use Rattle.lists.proofs.Members.{any_in}
 
--- ---- the scan
-module _ (p : ℕ → Bool) (list : List ℕ) (from : ℕ) where
-  pub pass_more : (k : ℕ) → from + k < length list → any p (take k (drop from list)) ≡ false → p (get_or list (from + k) 0) ≡ false
-      → any p (take (k + 1) (drop from list)) ≡ false
-  pass_more k h e q =
-      any_more (drop from list) k (omega (arith, length-drop from list)) p ∙ rw (e, get_or-drop from list k 0, q) refl
-
-  pub found_one : (k end : ℕ) → k < end → from + end ≤ length list → p (get_or list (from + k) 0) ≡ true → any p (take end (drop from list)) ≡ true
-  found_one k end h l q =
-      let n : length (take end (drop from list)) ≡ end = length-take-le end (drop from list) (omega (arith, length-drop from list)) in
-      let e : get_or (take end (drop from list)) k 0 ≡ get_or list (from + k) 0 = get_or-take end (drop from list) k 0 h ∙ get_or-drop from list k 0 in
-      any_in p (take end (drop from list)) (get_or (take end (drop from list)) k 0) (get_or_in (take end (drop from list)) k (omega arith)) (rw e q)
-
--- ---- those kept
 module _ (p : ℕ → Bool) (old row : List ℕ) (k len : ℕ) (h : k < length old) (same : length row ≡ length old) (l : len ≤ k)
     (rest : drop k row ≡ drop k old) where
   pub next_is : get_or row k 0 ≡ get_or old k 0

@@ -1,2 +1,3 @@
+pub mod RowNumbers
 pub mod PairRows
 pub mod RowSteps

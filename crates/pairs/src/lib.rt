@@ -3,13 +3,15 @@
 
 mod contenders;
 mod rivals;
+mod row;
 
 pub use contenders::contenders_into;
 pub use rivals::{finish_ex, first_apart, keep_rows, later_of, pairs_of};
+pub use row::Row;
 
-// The instructions from `from` on and below `to`.
+// The starts of the nodes, in node order: the earliest and the latest.
 #[derive(Clone, Copy)]
-pub struct Span {
-    pub from: usize,
-    pub to: usize,
+pub struct Times {
+    pub early: [u16; 300],
+    pub late: [u16; 300],
 }

@@ -8,23 +8,20 @@ use lib.ListN.{length, drop}
 use lib.Dec.{leb}
 use borrow.Author.Tests.{leb-true, not-false}
 use Rattle.lists.proofs.OneOutcome.{one_value}
-use Rattle.record.specs.Refusals.{Test, number_of, meaning, verdict, accepts, header_test, entry_test, output_test, block_tests, block_verdict}
+use Rattle.std.specs.Prelude.{Result, Ok as Accepted, Err as Refused}
+use Rattle.record.specs.Refusals.{Answer, Test, number_of, place_of, meaning, verdict, accepts, header_test, entry_test, output_test, block_tests, block_verdict}
 use Rattle.record.specs.Promises.{Whole}
-use Rattle.record.specs.declared.Answer.{Answer}
-use Rattle.record.specs.declared.Answer.TheVariants.{Accepted, Refused}
 use Rattle.record.specs.declared.Block.{Block}
 use Rattle.record.specs.declared.Reason.{Reason}
-use Rattle.record.specs.declared.Reason.TheVariants.{State as StateReason}
 use Rattle.record.proofs.Verdicts.{none, refuse, pass, passed, both_accepted, after_accepted, after_refused}
-use Rattle.record.proofs.Answers.{number_above, refused_not, answered_one}
+use Rattle.record.proofs.Answers.{number_above, refused_not, answered_one, result_one}
 use Rattle.model.specs.Nodes.{chosen}
 use Rattle.model.specs.Cycles.{State, first_state, cycle, unfit, play_length, play_table}
-use Rattle.unpacked.proofs.BlockColumns.{few}
+use Rattle.unpacked.proofs.BlockInstructions.{few}
 use Rattle.play.specs.Refusals.{list_test, latency_test, state_test, list_tests, cycle_tests, play_tests, length_tests}
-use Rattle.play.specs.Promises.{state_of, stepped, played, play_length_given, PlaysCycle, Plays, GivesPlayLength}
+use Rattle.play.specs.Promises.{state_of, stepped, played, answer_of, state_after, PlaysCycle, Plays, GivesPlayLength}
 use Rattle.play.specs.declared.PlayState.{PlayState}
-use Rattle.play.specs.declared.Step.{Step}
-use Rattle.play.specs.declared.PlayLength.{PlayLength}
+use Rattle.play.specs.declared.RefusedCycle.{RefusedCycle}
 use Rattle.play.proofs.LatencyList.{room_right}
 
 -- ---- values of the code by their parts
@@ -39,11 +36,14 @@ state_one p q e = ap play_state e
 pub first_one : (p q : PlayState) → state_of p ≡ first_state → state_of q ≡ first_state → p ≡ q
 first_one p q e f = state_one p q (one_value (state_of p) (state_of q) e f)
 
-abbrev step_of : Answer → PlayState → Step
-step_of a p = record { answer = a; state = p }
+-- an outcome of a cycle is its answer and its state
+abbrev outcome_of : Answer → PlayState → Result PlayState RefusedCycle
+outcome_of (Accepted x) p = Accepted p
+outcome_of (Refused r) p = Refused (record { reason = r; state = p })
 
-abbrev lasting_of : Answer → ℕ → PlayLength
-lasting_of a k = record { answer = a; cycles = k }
+outcome_whole : (x : Result PlayState RefusedCycle) → outcome_of (answer_of x) (state_after x) ≡ x
+outcome_whole (Accepted q) = refl
+outcome_whole (Refused e) = refl
 
 -- ---- tests after others
 
@@ -79,22 +79,16 @@ module _ (b : Block) (l : List ℕ) where
   length_fine z = both_accepted (block_tests b) (list_tests b l) z
 
 module _ (b : Block) (l : List ℕ) (w : Whole b) where
-  pub length_refused : (r : Reason) (a : Answer) → a ≡ Refused r → meaning a ≡ verdict (length_tests b l)
-      → GivesPlayLength b l (record { answer = a; cycles = 0 })
-  unfolding play_length_given
-  length_refused r a e h = record { whole = w; answer = h; cycles = rw (refused_out (verdict (length_tests b l)) r a e h) refl }
+  pub length_refused : (r : Reason) → (number_of r, place_of r) ≡ verdict (length_tests b l) → GivesPlayLength b l (Refused r)
+  length_refused r h = record { whole = w; answer = h; cycles = tt }
 
-  pub length_done : (a : Answer) (x : ℕ) → verdict (length_tests b l) ≡ (0, 0) → a ≡ Accepted → x ≡ play_length b (chosen b l)
-      → GivesPlayLength b l (record { answer = a; cycles = x })
-  unfolding play_length_given
-  length_done a x z e f = record { whole = w; answer = ap meaning e ∙ sym z; cycles = rw z f }
+  pub length_done : (x : ℕ) → verdict (length_tests b l) ≡ (0, 0) → x ≡ play_length b (chosen b l) → GivesPlayLength b l (Accepted x)
+  length_done x z f = record { whole = w; answer = sym z; cycles = f }
 
 module _ (b : Block) (l : List ℕ) where
   -- asking for the length has one outcome
-  pub length_one : (x y : PlayLength) → GivesPlayLength b l x → GivesPlayLength b l y → x ≡ y
-  length_one x y p q =
-      let o = answered_one x.answer y.answer x.cycles y.cycles p.answer p.cycles q.answer q.cycles in
-      ap (λ (a : Answer). lasting_of a x.cycles) o.0 ∙ ap (λ (k : ℕ). lasting_of y.answer k) o.1
+  pub length_one : (x y : Result ℕ Reason) → GivesPlayLength b l x → GivesPlayLength b l y → x ≡ y
+  length_one x y p q = result_one (play_length b (chosen b l)) x y (one_value (meaning x) (meaning y) p.answer q.answer) p.cycles q.cycles
 
 -- ---- one cycle
 module _ (b : Block) (l : List ℕ) (p : PlayState) where
@@ -108,24 +102,28 @@ module _ (b : Block) (l : List ℕ) (p : PlayState) where
   past_lists z = ap verdict cycle_tests_lem ∙ after_accepted (length_tests b l) _ z
 
 module _ (b : Block) (l : List ℕ) (p : PlayState) (w : Whole b) where
-  pub cycle_refused : (r : Reason) (a : Answer) → a ≡ Refused r → meaning a ≡ verdict (length_tests b l) → PlaysCycle b l p (record { answer = a; state = p })
+  -- its answer, by the first test that fails
+  pub listed_refused : (r : Reason) → (number_of r, place_of r) ≡ verdict (length_tests b l) → meaning {A = Unit {0}} (Refused r) ≡ verdict (cycle_tests b l (state_of p))
+  listed_refused r h = refused_stays (length_tests b l) _ r (Refused r) refl h ∙ ap verdict (sym (cycle_tests_lem b l p))
+
+  pub unfit_refused : verdict (length_tests b l) ≡ (0, 0) → unfit b (state_of p) ≡ true → (9, 0) ≡ verdict (cycle_tests b l (state_of p))
+  unfolding state_test
+  unfit_refused z h = sym (past_lists b l p z ∙ refuse (state_test b (state_of p)) [] h)
+
+  pub fit_accepted : verdict (length_tests b l) ≡ (0, 0) → unfit b (state_of p) ≡ false → (0, 0) ≡ verdict (cycle_tests b l (state_of p))
+  unfolding state_test
+  fit_accepted z h = sym (past_lists b l p z ∙ pass (state_test b (state_of p)) [] h ∙ none)
+
+  -- the outcome, by its answer
+  pub cycle_refused : (r : Reason) → (number_of r, place_of r) ≡ verdict (cycle_tests b l (state_of p))
+      → PlaysCycle b l p (Refused (record { reason = r; state = p }))
   unfolding stepped
-  cycle_refused r a e h =
-      let f : meaning a ≡ verdict (cycle_tests b l (state_of p)) = refused_stays (length_tests b l) _ r a e h ∙ ap verdict (sym (cycle_tests_lem b l p)) in
-      record { whole = w; answer = f; state = rw (refused_out _ r a e f) refl }
+  cycle_refused r f = record { whole = w; answer = f; state = rw (refused_out _ r (Refused r) refl f) refl }
 
-  pub cycle_unfit : verdict (length_tests b l) ≡ (0, 0) → unfit b (state_of p) ≡ true → PlaysCycle b l p (record { answer = Refused StateReason; state = p })
-  unfolding state_test stepped
-  cycle_unfit z h =
-      let f : verdict (cycle_tests b l (state_of p)) ≡ (9, 0) = past_lists b l p z ∙ refuse (state_test b (state_of p)) [] h in
-      record { whole = w; answer = sym f; state = rw f refl }
-
-  pub cycle_done : (a : Answer) (q : PlayState) → verdict (length_tests b l) ≡ (0, 0) → a ≡ Accepted → unfit b (state_of p) ≡ false
-      → state_of q ≡ cycle b (chosen b l) (state_of p) → PlaysCycle b l p (record { answer = a; state = q })
-  unfolding state_test stepped
-  cycle_done a q z e h g =
-      let f : verdict (cycle_tests b l (state_of p)) ≡ (0, 0) = past_lists b l p z ∙ pass (state_test b (state_of p)) [] h ∙ none in
-      record { whole = w; answer = ap meaning e ∙ sym f; state = rw f g }
+  pub cycle_done : (q : PlayState) → (0, 0) ≡ verdict (cycle_tests b l (state_of p)) → state_of q ≡ cycle b (chosen b l) (state_of p)
+      → PlaysCycle b l p (Accepted q)
+  unfolding stepped
+  cycle_done q f g = record { whole = w; answer = f; state = rw (← f) g }
 
 module _ (b : Block) (l : List ℕ) (p : PlayState) where
   -- what an accepted one is
@@ -138,10 +136,11 @@ module _ (b : Block) (l : List ℕ) (p : PlayState) where
       (y.0, y.1, (passed (state_test b (state_of p)) [] x.1).0)
 
   -- a cycle has one outcome
-  pub cycle_one : (x y : Step) → PlaysCycle b l p x → PlaysCycle b l p y → x ≡ y
+  pub cycle_one : (x y : Result PlayState RefusedCycle) → PlaysCycle b l p x → PlaysCycle b l p y → x ≡ y
   cycle_one x y u v =
-      let o = answered_one x.answer y.answer (state_of x.state) (state_of y.state) u.answer u.state v.answer v.state in
-      ap (λ (a : Answer). step_of a x.state) o.0 ∙ ap (λ (s : PlayState). step_of y.answer s) (state_one x.state y.state o.1)
+      let o = answered_one (answer_of x) (answer_of y) (state_of (state_after x)) (state_of (state_after y)) u.answer u.state v.answer v.state in
+      let s = state_one (state_after x) (state_after y) o.1 in
+      sym (outcome_whole x) ∙ ap (λ (a : Answer). outcome_of a (state_after x)) o.0 ∙ ap (λ (q : PlayState). outcome_of (answer_of y) q) s ∙ outcome_whole y
 
 -- ---- the play table
 module _ (b : Block) (l o : List ℕ) where
@@ -165,7 +164,7 @@ module _ (b : Block) (l o : List ℕ) (w : Whole b) where
   play_lent r a z e f = untouched r a e (f ∙ sym (past_block b l o z))
 
   pub play_done : block_verdict b ≡ (0, 0) → verdict (room b l o ∷ list_tests b l) ≡ (0, 0) → (p : List ℕ)
-      → p ≡ play_table b (chosen b l) ++ drop (15 * b.n) o → Plays b l o Accepted p
+      → p ≡ play_table b (chosen b l) ++ drop (15 * b.n) o → Plays b l o (Accepted tt) p
   unfolding played
   play_done z y p e =
       let f : verdict (play_tests b l o) ≡ (0, 0) = past_block b l o z ∙ y in

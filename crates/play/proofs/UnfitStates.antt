@@ -1,10 +1,14 @@
 -- An unfit state, as one walk over its 300 starts; and what a fit one is. Assumes nothing.
-use Prim.Native.Nat.{ℕ, ◌≤◌, ◌<◌}
+use Prim.Native.Nat.{ℕ, ◌+◌, ◌≤◌, ◌<◌}
 use mathlib.Core.Path.{◌≡◌, refl, sym, ◌∙◌}
 use mathlib.Core.Bool.{Bool, true, false, not, ◌&&◌, ◌||◌, false≢true}
 use mathlib.Core.Logic.{◌⊎◌, inl, inr}
 use native.Mathlib.Omega.{arith}
-use lib.ListN.{length, get_or-eq_default}
+use mathlib.Core.List.{List}
+use lib.ListN.{length, get_or, get_or-eq_default}
+use Rattle.std.specs.Bool.{MatchBool}
+use Rattle.std.specs.List.{HoldsAt, AllWithin, enumerate_from}
+use Rattle.std.proofs.lemmas.List.FromFn.{length-enumerate_from, get_or-enumerate_from}
 use lib.Dec.{leb, ltb, eqb}
 use borrow.Author.Tests.{lt-ltb, le-ltb, ltb-true, ltb-false, leb-true, le-leb, eqb-true, not-false}
 use Rattle.lists.specs.Lists.{exists}
@@ -66,6 +70,28 @@ module _ (b : Block) (p : State) (long : length p.starts ≡ 300) (end : ℕ) (q
       let beyond : leb end v ≡ true = le-leb end v (omega arith) in
       has v g ∙ part_second (not (eqb (start p.starts v) not_started)) (not (ltb (start p.starts v) p.t)) (leb end v) (h v g) beyond) in
       rw (le-ltb last_cycle p.t l, x, y) refl
+
+  -- THE WALK over the starts and their nodes, by whether it met an unfit one
+  abbrev starts : List (ℕ × ℕ)
+  starts = enumerate_from 0 p.starts
+
+  abbrev at : ℕ × ℕ → Bool
+  at x = unfit_at p.t end x.0 x.1
+
+  start_at : (v : ℕ) → v < length p.starts → ◌≡◌ {A = ℕ × ℕ} (get_or starts v (0, 0)) (v, start p.starts v)
+  start_at v few = let e : 0 + v ≡ v = omega arith in get_or-enumerate_from 0 p.starts v (0, 0) few ∙ rw e refl
+
+  pub unfit_walk : (r : Bool) → p.t ≤ last_cycle → b.n ≤ 60
+      → MatchBool r ((v : ℕ) × (v < length starts) × HoldsAt (λ (x : ℕ × ℕ). at x ≡ true) starts v)
+      (AllWithin (λ (x : ℕ × ℕ). at x ≡ false) starts 0 (length starts))
+      → r ≡ unfit b p
+  unfit_walk true l n (v, k, h) =
+      let few : v < length p.starts = omega (arith, length-enumerate_from 0 p.starts) in
+      sym (unfit_here v (omega arith) (rw (start_at v few) at (h (0, 0))))
+  unfit_walk false l n h =
+      sym (unfit_none l n (λ v k.
+      let few : v < length p.starts = omega arith in
+      rw (start_at v few) at (h v (0, 0) (omega arith) (omega (arith, length-enumerate_from 0 p.starts)))))
 
 module _ (b : Block) (p : State) where
   pub unfit_after : last_cycle < p.t → unfit b p ≡ true

@@ -1,16 +1,15 @@
 -- "How much each promise has to say": what each operation promises of its outcome.
-use Rattle.std.specs.Prelude.{◌≡◌, List, ◌++◌, ℕ, drop}
+use Rattle.std.specs.Prelude.{◌≡◌, List, ◌++◌, ℕ, drop, Result, IfOk, Ok as Accepted, Err as Refused}
 use Rattle.lists.specs.Lists.{pick}
-use Rattle.record.specs.Refusals.{meaning, verdict, accepts}
+use Rattle.record.specs.Refusals.{Answer, meaning, verdict, accepts}
 use Rattle.record.specs.Promises.{Whole}
-use Rattle.record.specs.declared.Answer.{Answer}
 use Rattle.record.specs.declared.Block.{Block}
+use Rattle.record.specs.declared.Reason.{Reason}
 use Rattle.model.specs.Nodes.{chosen}
 use Rattle.model.specs.Cycles.{State, cycle, play_length, play_numbers, play_table}
 use Rattle.play.specs.Refusals.{cycle_tests, play_tests, length_tests}
 use Rattle.play.specs.declared.PlayState.{PlayState}
-use Rattle.play.specs.declared.Step.{Step}
-use Rattle.play.specs.declared.PlayLength.{PlayLength}
+use Rattle.play.specs.declared.RefusedCycle.{RefusedCycle}
 
 -- the state that a value of the code is
 abbrev pub state_of : PlayState → State
@@ -24,16 +23,21 @@ stepped b l p = pick (accepts (verdict (cycle_tests b l p))) (cycle b (chosen b 
 unfoldable pub played : Block → List ℕ → List ℕ → List ℕ
 played b l o = pick (accepts (verdict (play_tests b l o))) (play_table b (chosen b l) ++ drop (play_numbers b) o) o
 
--- the length of a play. "any other value handed back beside a refusal is all zero"
-unfoldable pub play_length_given : Block → List ℕ → ℕ
-play_length_given b l = pick (accepts (verdict (length_tests b l))) (play_length b (chosen b l)) 0
+-- what a cycle answers, and the state that it gives or gives back
+abbrev pub answer_of : Result PlayState RefusedCycle → Answer
+answer_of (Accepted q) = Accepted tt
+answer_of (Refused e) = Refused e.reason
+
+abbrev pub state_after : Result PlayState RefusedCycle → PlayState
+state_after (Accepted q) = q
+state_after (Refused e) = e.state
 
 -- one cycle of the block b with the latencies l from the state p: the answer is the verdict, and the state is the next or
 -- the very one
-pub record PlaysCycle (b : Block) (l : List ℕ) (p : PlayState) (r : Step) : Type 0 where
+pub record PlaysCycle (b : Block) (l : List ℕ) (p : PlayState) (r : Result PlayState RefusedCycle) : Type 0 where
   pub whole : Whole b
-  pub answer : meaning r.answer ≡ verdict (cycle_tests b l (state_of p))
-  pub state : state_of r.state ≡ stepped b l (state_of p)
+  pub answer : meaning (answer_of r) ≡ verdict (cycle_tests b l (state_of p))
+  pub state : state_of (state_after r) ≡ stepped b l (state_of p)
 
 -- playing to an output that held o and then holds o': the answer is the verdict, and the output has the play table or is
 -- untouched
@@ -42,8 +46,8 @@ pub record Plays (b : Block) (l o : List ℕ) (a : Answer) (o' : List ℕ) : Typ
   pub answer : meaning a ≡ verdict (play_tests b l o)
   pub output : o' ≡ played b l o
 
--- asking for the length
-pub record GivesPlayLength (b : Block) (l : List ℕ) (r : PlayLength) : Type 0 where
+-- asking for the length: the answer is the verdict, and the number is the length. A refusal has none beside it
+pub record GivesPlayLength (b : Block) (l : List ℕ) (r : Result ℕ Reason) : Type 0 where
   pub whole : Whole b
-  pub answer : meaning r.answer ≡ verdict (length_tests b l)
-  pub cycles : r.cycles ≡ play_length_given b l
+  pub answer : meaning r ≡ verdict (length_tests b l)
+  pub cycles : IfOk r (λ k. k ≡ play_length b (chosen b l))

@@ -1,1 +1,2 @@
+pub mod LatencyFault
 pub mod StartTest

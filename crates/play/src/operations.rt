@@ -4,24 +4,23 @@ ghost use Rattle.record.specs.Refusals.{meaning, block_verdict, verdict};
 ghost use Rattle.record.specs.Promises.{Whole};
 ghost use Rattle.model.specs.Nodes.{chosen};
 ghost use Rattle.model.specs.Cycles.{first_state, cycle, unfit};
-ghost use Rattle.play.specs.Refusals.{list_tests, length_tests};
+ghost use Rattle.play.specs.Refusals.{list_tests, length_tests, cycle_tests};
 ghost use Rattle.play.specs.Promises.{state_of, PlaysCycle, Plays, GivesPlayLength};
 
 use crate::refusals::{lent_answer, unfit_state};
-use crate::{PlayLength, PlayState, Step};
+use crate::{PlayState, RefusedCycle};
 use choices::table_into;
 use cycles::cycle_into;
-use record::{Answer, Block, Reason};
+use record::{Block, Reason};
 
 // The state after a cycle.
 fn next_state(b: Block, lat: &[u8], p: PlayState) -> PlayState
     requires { (block_verdict b ≡ (0, 0)) × (verdict (list_tests b lat.now) ≡ (0, 0)) × (unfit b (state_of p) ≡ false) }
     ensures { state_of result ≡ cycle b (chosen b lat.now) (state_of p) }
 {
-    let h = unpacked::shape_of(b);
-    let u = unpacked::columns_of(b);
+    let u = unpacked::unpacked_of(b);
     let mut s = p.starts;
-    cycle_into(h, &u, lat, unpacked::wide(p.t), &mut s);
+    cycle_into(&u, lat, u32::from(p.t), &mut s);
     PlayState {
         t: p.t + 1,
         starts: s,
@@ -29,53 +28,43 @@ fn next_state(b: Block, lat: &[u8], p: PlayState) -> PlayState
 }
 
 // Writes the play table of a block under the latencies of a list to an output of at least 15 n numbers.
-pub fn play(b: Block, lat: &[u8], out: &mut [u16]) -> Answer
+pub fn play(b: Block, lat: &[u8], out: &mut [u16]) -> Result<(), Reason>
     ensures { Plays b lat.now out.old result out.new }
 {
-    let answer = writer::block_answer(b);
-    match answer {
-        Answer::Refused(_) => answer,
-        Answer::Accepted => {
-            let lent = lent_answer(b, lat, out.len());
-            match lent {
-                Answer::Refused(_) => lent,
-                Answer::Accepted => {
-                    table_into(b, lat, out);
-                    Answer::Accepted
-                }
-            }
-        }
-    }
+    writer::block_answer(b)?;
+    lent_answer(b, lat, out.len())?;
+    table_into(b, lat, out);
+    Ok(())
 }
 
 // Tests 4, 5, 7 and 8. There is no output: test 6 is given room enough for every block, 900 numbers.
-fn both_answer(b: Block, lat: &[u8]) -> Answer
+fn both_answer(b: Block, lat: &[u8]) -> Result<(), Reason>
     ensures { (meaning result ≡ verdict (length_tests b lat.now)) × Whole b }
 {
-    let answer = writer::block_answer(b);
-    match answer {
-        Answer::Refused(_) => answer,
-        Answer::Accepted => lent_answer(b, lat, 900),
-    }
+    writer::block_answer(b)?;
+    lent_answer(b, lat, 900)
 }
 
 // The length of the play of a block under the latencies of a list: the last number of its table.
-pub fn play_length(b: Block, lat: &[u8]) -> PlayLength
+pub fn play_length(b: Block, lat: &[u8]) -> Result<u16, Reason>
     ensures { GivesPlayLength b lat.now result }
 {
-    let answer = both_answer(b, lat);
-    match answer {
-        Answer::Refused(_) => PlayLength { answer, cycles: 0 },
-        Answer::Accepted => {
-            let mut out = [0u16; 900];
-            table_into(b, lat, &mut out);
-            let last = 15 * (b.n as usize) - 1;
-            PlayLength {
-                answer,
-                cycles: out[last],
-            }
-        }
+    both_answer(b, lat)?;
+    let mut out = [0u16; 900];
+    table_into(b, lat, &mut out);
+    let last = 15 * usize::from(b.n) - 1;
+    Ok(out[last])
+}
+
+// The tests of a cycle: those of the length, then 9.
+fn cycle_answer(b: Block, lat: &[u8], p: PlayState) -> Result<(), Reason>
+    ensures { (meaning result ≡ verdict (cycle_tests b lat.now (state_of p))) × Whole b }
+{
+    both_answer(b, lat)?;
+    if unfit_state(usize::from(b.n), p) {
+        return Err(Reason::State);
     }
+    Ok(())
 }
 
 impl PlayState {
@@ -90,27 +79,15 @@ impl PlayState {
     }
 
     // One cycle of play: the state goes in, and the next comes back. A refused cycle gives back the state it got.
-    pub fn cycle(self, b: Block, lat: &[u8]) -> Step
+    pub fn cycle(self, b: Block, lat: &[u8]) -> Result<PlayState, RefusedCycle>
         ensures { PlaysCycle b lat.now self result }
     {
-        let answer = both_answer(b, lat);
-        match answer {
-            Answer::Refused(_) => Step {
-                answer,
+        match cycle_answer(b, lat, self) {
+            Ok(()) => Ok(next_state(b, lat, self)),
+            Err(reason) => Err(RefusedCycle {
+                reason,
                 state: self,
-            },
-            Answer::Accepted => {
-                if unfit_state(b.n as usize, self) {
-                    return Step {
-                        answer: Answer::Refused(Reason::State),
-                        state: self,
-                    };
-                }
-                Step {
-                    answer,
-                    state: next_state(b, lat, self),
-                }
-            }
+            }),
         }
     }
 }

@@ -1,15 +1,15 @@
 // Tests 6 to 9.
-ghost use Rattle.std.specs.Prelude.{◌≡◌, ◌||◌, ◌∷◌, ◌≤◌, length, leb, ltb};
-ghost use Rattle.lists.specs.Lists.{least};
+ghost use Rattle.std.specs.Prelude.{◌≡◌, ◌||◌, ◌∷◌, ◌≤◌, ◌<◌, length, leb, ltb, MatchOption};
 ghost use Rattle.record.specs.Refusals.{meaning, verdict, output_test};
 ghost use Rattle.record.specs.declared.Block.{Block};
 ghost use Rattle.model.specs.Cycles.{unfit, play_numbers};
-ghost use Rattle.play.specs.Refusals.{wrong, list_tests};
+ghost use Rattle.play.specs.Refusals.{list_tests};
 ghost use Rattle.play.specs.Promises.{state_of};
+ghost use Rattle.play.specs.inside.LatencyFault.{WrongAt};
 ghost use Rattle.play.specs.inside.StartTest.{unfit_at};
 
 use crate::PlayState;
-use record::{Answer, Block, Entry, Reason};
+use record::{Block, Entry, Reason};
 
 // The last cycle number that a state may have.
 const LAST_CYCLE: u16 = 30779;
@@ -20,39 +20,33 @@ fn is_wrong(l: u8, e: Entry) -> bool
     l < e.lo || e.hi < l
 }
 
-// The first instruction whose latency is outside its lo to hi, or n.
-fn latency_fault(b: Block, lat: &[u8]) -> usize
+// The first instruction whose latency is outside its lo to hi.
+fn latency_fault(b: Block, lat: &[u8]) -> Option<usize>
     requires { (b.n ≤ 60) × (length lat.now ≡ b.n) }
-    ensures { result ≡ least 0 b.n (wrong b lat.now) }
+    ensures { MatchOption result (WrongAt b lat.now b.n) (λ i. WrongAt b lat.now i × (i < b.n)) }
 {
-    let n = b.n as usize;
-    for i in 0..n {
-        let e = b.entries[i];
-        if is_wrong(lat[i], e) {
-            return i;
-        }
-    }
-    n
+    lat.iter()
+        .zip(&b.entries)
+        .position(|(l, e)| is_wrong(*l, *e))
 }
 
 // Tests 6, 7 and 8, of an output with room for so many numbers.
-pub fn lent_answer(b: Block, lat: &[u8], room: usize) -> Answer
+pub fn lent_answer(b: Block, lat: &[u8], room: usize) -> Result<(), Reason>
     requires { b.n ≤ 60 }
     ensures { meaning result ≡ verdict (output_test (leb (play_numbers b) room) ∷ list_tests b lat.now) }
 {
-    let n = b.n as usize;
+    let n = usize::from(b.n);
     let need = 15 * n;
     if room < need {
-        return Answer::Refused(Reason::Output);
+        return Err(Reason::Output);
     }
     if lat.len() != n {
-        return Answer::Refused(Reason::Latencies);
+        return Err(Reason::Latencies);
     }
-    let i = latency_fault(b, lat);
-    if i < n {
-        return Answer::Refused(Reason::Latency(i));
+    match latency_fault(b, lat) {
+        Some(i) => Err(Reason::Latency(i)),
+        None => Ok(()),
     }
-    Answer::Accepted
 }
 
 // A start that a state in cycle t may not have at node v, the nodes ending at `end`.
@@ -74,10 +68,8 @@ pub fn unfit_state(n: usize, p: PlayState) -> bool
     if p.t > LAST_CYCLE {
         return true;
     }
-    for v in 0..300 {
-        if is_unfit(p.t, end, v, p.starts[v]) {
-            return true;
-        }
-    }
-    false
+    p.starts
+        .iter()
+        .enumerate()
+        .any(|(v, x)| is_unfit(p.t, end, v, *x))
 }

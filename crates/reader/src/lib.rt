@@ -1,20 +1,20 @@
 // The reader.
 #![tactic(auto)]
 
-ghost use Rattle.std.specs.Prelude.{◌≡◌, not, ◌<◌, length};
-ghost use Rattle.lists.specs.Lists.{tab, least};
+ghost use Rattle.std.specs.Prelude.{◌≡◌, not, ◌<◌, length, ltb, unwrap_or};
+ghost use Rattle.lists.specs.Lists.{tab, first_at};
 ghost use Rattle.record.specs.Rules.{broken};
-ghost use Rattle.record.specs.Layout.{entry_at, decoded, no_entry, no_block};
+ghost use Rattle.record.specs.Layout.{entry_at, decoded};
 ghost use Rattle.record.specs.Promises.{Reads};
 
 use record::{
-    Answer, Block, Entry, HI, LO, READS1, READS2, Reading, Reason, WRITES, ZERO1, ZERO2, check_of,
-    entry_ok, four_at, header_fault,
+    Block, Entry, HI, LO, READS1, READS2, Reason, WRITES, ZERO1, ZERO2, check_of, entry_ok,
+    four_at, header_fault,
 };
 
 // Entry i of a record.
-fn entry_at(s: &[u8], i: usize) -> Entry
-    requires { (i < 60) × (length s.now ≡ 512) }
+fn entry_at(s: &[u8; 512], i: usize) -> Entry
+    requires { i < 60 }
     ensures { result ≡ entry_at s.now i }
 {
     let at = 28 + 8 * i;
@@ -29,8 +29,8 @@ fn entry_at(s: &[u8], i: usize) -> Entry
 }
 
 // Whether entry i of a record keeps its rule.
-fn bytes_ok(s: &[u8], i: usize) -> bool
-    requires { (i < 60) × (length s.now ≡ 512) }
+fn bytes_ok(s: &[u8; 512], i: usize) -> bool
+    requires { i < 60 }
     ensures { not result ≡ broken s.now i }
 {
     let e = entry_at(s, i);
@@ -39,65 +39,29 @@ fn bytes_ok(s: &[u8], i: usize) -> bool
     ok & (s[at + ZERO1] == 0) & (s[at + ZERO2] == 0)
 }
 
-// The first entry that breaks its rule, or 60. `left` entries are not yet tested.
-fn entry_fault(s: &[u8]) -> usize
-    requires { length s.now ≡ 512 }
-    ensures { result ≡ least 0 60 (broken s.now) }
+// The first entry that breaks its rule, if there is one.
+fn entry_fault(s: &[u8; 512]) -> Option<usize>
+    ensures { result ≡ first_at 0 60 (broken s.now) }
 {
-    let mut left = 60;
-    while 0 < left {
-        let i = 60 - left;
+    for i in 0..60 {
         if !bytes_ok(s, i) {
-            return i;
+            return Some(i);
         }
-        left -= 1;
     }
-    60
+    None
 }
 
-fn no_entry() -> Entry
-    ensures { result ≡ no_entry }
-{
-    Entry {
-        kind: 0,
-        lo: 0,
-        hi: 0,
-        writes: 0,
-        reads1: 0,
-        reads2: 0,
-    }
-}
-
-fn no_block() -> Block
-    ensures { result ≡ no_block }
-{
-    let entries = [no_entry(); 60];
-    Block {
-        n: 0,
-        q: 0,
-        w: 0,
-        f: 0,
-        d: 0,
-        c: 0,
-        origin: 0,
-        number: 0,
-        entries,
-    }
-}
-
-fn entries_of(s: &[u8]) -> [Entry; 60]
-    requires { length s.now ≡ 512 }
+fn entries_of(s: &[u8; 512]) -> [Entry; 60]
     ensures { result ≡ tab 60 (entry_at s.now) }
 {
-    let mut entries = [no_entry(); 60];
-    for i in 0..60 {
-        entries[i] = entry_at(s, i);
+    let mut entries = [Entry::default(); 60];
+    for (i, entry) in entries.iter_mut().enumerate() {
+        *entry = entry_at(s, i);
     }
     entries
 }
 
-fn decode(s: &[u8]) -> Block
-    requires { length s.now ≡ 512 }
+fn decode(s: &[u8; 512]) -> Block
     ensures { result ≡ decoded s.now }
 {
     let entries = entries_of(s);
@@ -115,42 +79,35 @@ fn decode(s: &[u8]) -> Block
     }
 }
 
-fn refused(reason: Reason) -> Reading
-    ensures { (result.answer ≡ Answer.Refused reason) × (result.block ≡ no_block) }
+// Whether a header's first fault lies in the letters.
+fn in_letters(fault: Option<usize>) -> bool
+    ensures { result ≡ ltb (unwrap_or fault 28) 4 }
 {
-    let block = no_block();
-    Reading {
-        answer: Answer::Refused(reason),
-        block,
-    }
+    fault.is_some_and(|k| k < 4)
 }
 
 // Reads a byte string of any length.
-pub fn read(s: &[u8]) -> Reading
+pub fn read(s: &[u8]) -> Result<Block, Reason>
     ensures { Reads s.now result }
 {
-    if s.len() != 512 {
-        return refused(Reason::Length);
-    }
+    let Ok(s) = <&[u8; 512]>::try_from(s) else {
+        return Err(Reason::Length);
+    };
     let sum = check_of(s);
     let kept = four_at(s, 508);
     let h = header_fault(s);
+    let letters = in_letters(h);
     if sum != kept {
-        return refused(Reason::Check);
+        return Err(Reason::Check);
     }
-    if h < 4 {
-        return refused(Reason::Letters);
+    if letters {
+        return Err(Reason::Letters);
     }
-    if h < 28 {
-        return refused(Reason::Header(h));
+    if let Some(k) = h {
+        return Err(Reason::Header(k));
     }
-    let i = entry_fault(s);
-    if i < 60 {
-        return refused(Reason::Rule(i));
+    if let Some(i) = entry_fault(s) {
+        return Err(Reason::Rule(i));
     }
-    let block = decode(s);
-    Reading {
-        answer: Answer::Accepted,
-        block,
-    }
+    Ok(decode(s))
 }

@@ -3,7 +3,7 @@
 use Prim.Native.Nat.{ℕ, zero, suc, ◌+◌}
 use mathlib.Core.List.{List, [], ◌∷◌}
 use native.Mathlib.Omega.{arith}
-use lib.ListN.{get_or, length-replicate, get_or-eq_default}
+use lib.ListN.{get_or, get_or-eq_default}
 use lib.Dec.{ltb}
 use borrow.Author.Tests.{ltb-true, ltb-false}
 use mir.Syntax.{w8}
@@ -11,15 +11,14 @@ use mir.Val.{WT, Fits}
 use borrow.Author.Rules.{rules}
 use Rattle.lists.specs.Lists.{tab}
 use Rattle.lists.proofs.Bools.{by_test}
-use Rattle.lists.proofs.Elements.{get_or_all}
 use Rattle.lists.proofs.TableByIndex.{length_tab, get_or_tab}
 use Rattle.lists.proofs.Little.{little_below}
 use Rattle.record.specs.Rules.{at}
-use Rattle.record.specs.Layout.{entry_at, decoded, no_entry, no_block}
-use Rattle.record.specs.Refusals.{accepts, read_verdict, read_block}
+use Rattle.record.specs.Layout.{entry_at, decoded, no_entry}
+use Rattle.std.specs.Prelude.{Ok}
 use Rattle.record.specs.Promises.{ByteString, ByteEntry, Whole, Reads}
 use Rattle.record.specs.declared.Entry.{Entry}
-use Rattle.record.specs.declared.Reading.{Reading}
+use Rattle.record.specs.declared.Block.{Block}
 use Rattle.record.proofs.Block.TheLaws as laws
 
 -- an entry that is all zero is six bytes
@@ -79,25 +78,6 @@ module _ (s : List ℕ) (u : ByteString s) where
             (λ t. rw (get_or-eq_default (tab 60 (entry_at s)) no_entry {n = i} (omega (arith, length_tab 60 (entry_at s), ltb-false i 60 t))) zero_bytes);
       }
 
-none_whole : Whole no_block
-unfolding no_block
-none_whole =
-    record {
-      n = omega arith;
-      q = omega arith;
-      w = omega arith;
-      f = omega arith;
-      d = omega arith;
-      c = omega arith;
-      origin = omega arith;
-      number = omega arith;
-      entries = length-replicate 60 no_entry;
-      each = λ i. rw (get_or_all no_entry 60 i) zero_bytes;
-    }
-
 -- WHATEVER READING GIVES IS WHOLE
-pub read_whole : (s : List ℕ) (r : Reading) → Reads s r → Whole r.block
-unfolding read_block
-read_whole s r x =
-    rw x.block
-    (by_test (accepts (read_verdict s)) (λ t. rw t (decoded_whole s x.bytes)) (λ t. rw t none_whole))
+pub read_whole : (s : List ℕ) (b : Block) → Reads s (Ok b) → Whole b
+read_whole s b x = rw x.block (decoded_whole s x.bytes)

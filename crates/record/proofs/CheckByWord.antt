@@ -1,10 +1,14 @@
 -- The check word by word: one word more, the 508 bytes that it goes by, and that it fits four bytes. Assumes nothing.
-use mathlib.Core.Path.{◌≡◌, refl}
-use mathlib.Core.List.{List}
+use mathlib.Core.Path.{◌≡◌, refl, ◌∙◌}
+use mathlib.Core.List.{List, []}
 use Prim.Native.Nat.{ℕ, zero, suc, ◌+◌, ◌*◌, ◌%◌, ◌≤◌, ◌<◌}
 use native.Mathlib.Numerals.{add-one}
 use native.Mathlib.Omega.{arith}
-use lib.ListN.{get_or}
+use lib.ListN.{get_or, take, drop}
+use lib.Seq.{drop-drop}
+use native.Mathlib.Nat.{mul-zero, mul-suc, add_comm}
+use Rattle.std.proofs.lemmas.List.{get_or-take, get_or-drop}
+use Rattle.std.specs.Simd.{first_chunks}
 use Rattle.lists.specs.Bytes.{little}
 use Rattle.lists.proofs.Little.{little_ext}
 use Rattle.record.specs.Check.{word, sum_a, sum_b, check_of}
@@ -53,3 +57,14 @@ sum_b_lt s (suc k) = omega arith
 pub check_lt : (s : List ℕ) → check_of s < 4294967296
 unfolding check_of
 check_lt s = omega (arith, sum_a_lt s 254, sum_b_lt s 254)
+
+-- ---- words as chunks of two
+chunk_is : {X : Type 0} (n c : ℕ) (xs : List X) (k : ℕ) → k < c → get_or (first_chunks n c xs) k [] ≡ take n (drop (n * k) xs)
+chunk_is n zero xs k h = absurd (omega arith)
+chunk_is n (suc c) xs zero h = rw mul-zero refl
+chunk_is n (suc c) xs (suc k) h = chunk_is n c (drop n xs) k (omega arith) ∙ rw (drop-drop (n * k) n xs, mul-suc, add_comm (n * k) n) refl
+
+module _ (s : List ℕ) (k : ℕ) (h : k < 254) where
+  -- byte j of word k, the words being those of the first 508 bytes
+  pub chunk_byte : (j : ℕ) → j < 2 → get_or (get_or (first_chunks 2 254 (take 508 s)) k []) j 0 ≡ get_or s (2 * k + j) 0
+  chunk_byte j q = rw (chunk_is 2 254 (take 508 s) k h) (get_or-take 2 _ j 0 q ∙ get_or-drop (2 * k) (take 508 s) j 0 ∙ get_or-take 508 s (2 * k + j) 0 (omega arith))

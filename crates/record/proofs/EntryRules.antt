@@ -32,6 +32,14 @@ all_eight true true true true true true true true = refl
 pub first_six : (a b c d e f : Bool) → not (a && b && c && d && e && f) ≡ some_broken (a ∷ b ∷ c ∷ d ∷ e ∷ f ∷ true ∷ true ∷ [])
 first_six a b c d e f = rw (← all_eight a b c d e f true true, and-true, and-true) refl
 
+-- the same, each tested after the one before it
+pub six_in_turn : (a b c d e f : Bool) → not (a && (b && (c && (d && (e && f))))) ≡ some_broken (a ∷ b ∷ c ∷ d ∷ e ∷ f ∷ true ∷ true ∷ [])
+six_in_turn false b c d e f = first_six false b c d e f
+six_in_turn true false c d e f = first_six true false c d e f
+six_in_turn true true false d e f = first_six true true false d e f
+six_in_turn true true true false e f = first_six true true true false e f
+six_in_turn true true true true e f = first_six true true true true e f
+
 not_one : (a b : Bool) → not a ≡ not b → a ≡ b
 not_one true true e = refl
 not_one true false e = absurd (false≢true e)

@@ -1,3 +1,4 @@
+pub mod HeaderRows
 pub mod CheckByWord
 pub mod EntryRules
 pub mod ReasonNumbers

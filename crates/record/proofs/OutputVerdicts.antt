@@ -19,8 +19,8 @@ use Rattle.record.specs.Rules.{header_table, lows, highs, outside, broken}
 use Rattle.record.specs.Layout.{no_entry, head_bytes, entry_bytes, entries_bytes, body, encoded}
 use Rattle.record.specs.Refusals.{Test, number_of, meaning, verdict, header_test, entry_test, output_test, block_tests, write_tests, block_verdict, write_verdict, accepts, written}
 use Rattle.record.specs.Promises.{Whole, Writes}
-use Rattle.record.specs.declared.Answer.{Answer}
-use Rattle.record.specs.declared.Answer.TheVariants.{Accepted, Refused}
+use Rattle.record.specs.Refusals.{Answer}
+use Rattle.std.specs.Prelude.{Ok as Accepted, Err as Refused}
 use Rattle.record.specs.declared.Block.{Block}
 use Rattle.record.specs.declared.Reason.{Reason}
 use Rattle.record.specs.declared.Reason.TheVariants.{Header, Rule, Output}
@@ -117,7 +117,7 @@ module _ (b : Block) (right : Bool) where
         let f : put_verdict b right ≡ (6, 0) = past_block z ∙ refuse (output_test right) [] (ap not h) in
         record { answer = sym f; output = rw f refl }
 
-    pub put_done : block_verdict b ≡ (0, 0) → right ≡ true → (p : List ℕ) → p ≡ made → Outcome b right made o Accepted p
+    pub put_done : block_verdict b ≡ (0, 0) → right ≡ true → (p : List ℕ) → p ≡ made → Outcome b right made o (Accepted tt) p
     unfolding output_test
     put_done z h p e =
         let f : put_verdict b right ≡ (0, 0) = past_block z ∙ pass (output_test right) [] (ap not h) ∙ none in
@@ -135,7 +135,7 @@ module _ (b : Block) (o : List ℕ) (w : Whole b) where
   pub write_output : block_verdict b ≡ (0, 0) → (length o ≡ 512 → ⊥) → Writes b o (Refused Output) o
   write_output z h = written_so _ o (put_output b _ _ o z (ne_eqb (length o) 512 h))
 
-  pub write_done : block_verdict b ≡ (0, 0) → length o ≡ 512 → (p : List ℕ) → p ≡ encoded b → Writes b o Accepted p
+  pub write_done : block_verdict b ≡ (0, 0) → length o ≡ 512 → (p : List ℕ) → p ≡ encoded b → Writes b o (Accepted tt) p
   write_done z h p e = written_so _ p (put_done b _ _ o z (eq-eqb (length o) 512 h) p e)
 
 -- what an accepted write is

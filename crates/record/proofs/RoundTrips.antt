@@ -19,18 +19,18 @@ use Rattle.record.specs.Check.{check_of}
 use Rattle.record.specs.Rules.{header_table, lows, highs, outside, at, entry_byte, wrong_byte, broken}
 use Rattle.record.specs.Layout.{no_entry, entry_at, decoded, head_bytes, entry_bytes, body, encoded}
 use Rattle.record.specs.inside.EntryBytes.{byte_of}
-use Rattle.record.specs.Refusals.{read_verdict, block_verdict, write_verdict, read_block, written}
+use Rattle.record.specs.Refusals.{read_verdict, block_verdict, write_verdict, written}
 use Rattle.record.specs.Promises.{Reads, Writes, ByteString, Whole}
-use Rattle.record.specs.declared.Answer.{Answer}
-use Rattle.record.specs.declared.Answer.TheVariants.{Accepted}
+use Rattle.record.specs.Refusals.{Answer}
+use Rattle.std.specs.Prelude.{Result, Ok as Accepted}
 use Rattle.record.specs.declared.Block.{Block}
-use Rattle.record.specs.declared.Reading.{Reading}
+use Rattle.record.specs.declared.Reason.{Reason}
 use Rattle.record.proofs.CheckByWord.{check_ext}
 use Rattle.record.proofs.EntryRules.{last_two}
 use Rattle.record.proofs.RecordBytes.{length_encoded, head_byte, entry_byte_lem, check_same, check_byte, check_stored, outside_head}
 use Rattle.record.proofs.Verdicts.{Fine, fine, read_fine}
 use Rattle.record.proofs.OutputVerdicts.{head_walk, block_none, block_fine, write_fine, write_done}
-use Rattle.record.proofs.Answers.{meaning_one, accepted_so, write_one}
+use Rattle.record.proofs.Answers.{result_one, accepted_so, write_one}
 
 -- ---- from a block to its record and back
 module _ (b : Block) where
@@ -72,8 +72,7 @@ module _ (b : Block) where
       refl
 
   -- the record of an accepted block is accepted, and says the block
-  pub read_encoded : Whole b → block_verdict b ≡ (0, 0) → (read_verdict (encoded b) ≡ (0, 0)) × (read_block (encoded b) ≡ b)
-  unfolding read_block
+  pub read_encoded : Whole b → block_verdict b ≡ (0, 0) → (read_verdict (encoded b) ≡ (0, 0)) × (decoded (encoded b) ≡ b)
   read_encoded v z =
       let f = block_fine b z in
       let same : least 0 28 (outside (head_bytes b)) ≡ least 0 28 (outside (encoded b))
@@ -81,7 +80,7 @@ module _ (b : Block) where
       let stored : check_of (encoded b) ≡ little 4 (encoded b) 508 = check_same b ∙ sym (check_stored b) in
       let past : 28 ≤ least 0 28 (outside (encoded b)) = omega (arith, same, head_walk b, f.0) in
       let r : read_verdict (encoded b) ≡ (0, 0) = read_fine (encoded b) (length_encoded b) stored _ refl past f.1 in
-      (r, rw r (decoded_encoded v))
+      (r, decoded_encoded v)
 
 -- ---- from a record to its block and back
 module _ (s : List ℕ) (u : ByteString s) (f : Fine s) where
@@ -172,30 +171,30 @@ unfolding written
 written_is b o z = rw z refl
 
 -- what an accepted reading gives: the bytes are accepted, the block is theirs, and it is accepted too
-module _ (s : List ℕ) (r : Reading) (x : Reads s r) (e : r.answer ≡ Accepted) where
+module _ (s : List ℕ) (b : Block) (x : Reads s (Accepted b)) where
   pub reading_fine : read_verdict s ≡ (0, 0)
-  reading_fine = accepted_so r.answer e x.answer
+  reading_fine = sym x.answer
 
-  pub reading_decoded : r.block ≡ decoded s
-  unfolding read_block
-  reading_decoded = x.block ∙ (rw reading_fine refl)
+  pub reading_decoded : b ≡ decoded s
+  reading_decoded = x.block
 
   pub reading_accepted : block_verdict (decoded s) ≡ (0, 0)
   reading_accepted = block_decoded s x.bytes (fine s reading_fine)
 
 -- whatever writing an accepted block leaves in the output, reading it accepts and gives the block back
-pub read_written : (b : Block) (o p : List ℕ) (a : Answer) (r : Reading) → Writes b o a p → a ≡ Accepted → Reads p r → (r.answer ≡ Accepted) × (r.block ≡ b)
+pub read_written : (b : Block) (o p : List ℕ) (a : Answer) (r : Result Block Reason) → Writes b o a p → a ≡ Accepted tt → Reads p r → r ≡ Accepted b
 read_written b o p a r w e x =
     let z : write_verdict b o ≡ (0, 0) = accepted_so a e w.answer in
     let q : p ≡ encoded b = w.output ∙ written_is b o z in
     let t = read_encoded b w.whole (write_fine b o z).0 in
-    (meaning_one r.answer Accepted (x.answer ∙ rw q t.0), x.block ∙ rw q t.1)
+    let u : Reads (encoded b) r = rw q at x in
+    result_one b r (Accepted b) (u.answer ∙ t.0) (rw t.1 at u.block) refl
 
 -- whatever reading an accepted byte string gives, writing it to 512 bytes accepts and gives the byte string back
-pub written_read : (s o p : List ℕ) (a : Answer) (r : Reading) → Reads s r → r.answer ≡ Accepted → length o ≡ 512
-    → Writes r.block o a p → (a ≡ Accepted) × (p ≡ s)
-written_read s o p a r x e l w =
-    let v : Writes (decoded s) o a p = rw (reading_decoded s r x e) at w in
-    let same = encoded_decoded s x.bytes (fine s (reading_fine s r x e)) in
-    let d = write_done (decoded s) o v.whole (reading_accepted s r x e) l s (sym same) in
-    write_one (decoded s) o a Accepted p s v d
+pub written_read : (s o p : List ℕ) (a : Answer) (b : Block) → Reads s (Accepted b) → length o ≡ 512
+    → Writes b o a p → (a ≡ Accepted tt) × (p ≡ s)
+written_read s o p a b x l w =
+    let v : Writes (decoded s) o a p = rw (reading_decoded s b x) at w in
+    let same = encoded_decoded s x.bytes (fine s (reading_fine s b x)) in
+    let d = write_done (decoded s) o v.whole (reading_accepted s b x) l s (sym same) in
+    write_one (decoded s) o a (Accepted tt) p s v d

@@ -37,10 +37,6 @@ decoded s = record {
 abbrev pub no_entry : Entry
 no_entry = record { kind = 0; lo = 0; hi = 0; writes = 0; reads1 = 0; reads2 = 0 }
 
--- a block that is all zero
-unfoldable pub no_block : Block
-no_block = record { n = 0; q = 0; w = 0; f = 0; d = 0; c = 0; origin = 0; number = 0; entries = replicate 60 no_entry }
-
 -- bytes 0 to 27: letters BLK1, n, Q, W, f, d, c, origin, a spare, the block number, twelve spares
 unfoldable pub head_bytes : Block → List ℕ
 head_bytes b =

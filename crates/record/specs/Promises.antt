@@ -1,13 +1,12 @@
 -- "How much each promise has to say": what each operation promises of its outcome. Reading also promises that its bytes are
 -- bytes, and every operation that takes a block value that it is one of the code's, so that a theorem on outcomes asks for
 -- nothing but the promises and the acceptance.
-use Rattle.std.specs.Prelude.{◌≡◌, List, ℕ, ◌≤◌, ◌<◌, length, get_or}
-use Rattle.record.specs.Layout.{no_entry}
-use Rattle.record.specs.Refusals.{meaning, read_verdict, read_block, block_verdict, write_verdict, written}
-use Rattle.record.specs.declared.Answer.{Answer}
+use Rattle.std.specs.Prelude.{◌≡◌, List, ℕ, ◌≤◌, ◌<◌, length, get_or, Result, IfOk}
+use Rattle.record.specs.Layout.{no_entry, decoded}
+use Rattle.record.specs.Refusals.{Answer, meaning, read_verdict, block_verdict, write_verdict, written}
 use Rattle.record.specs.declared.Block.{Block}
 use Rattle.record.specs.declared.Entry.{Entry}
-use Rattle.record.specs.declared.Reading.{Reading}
+use Rattle.record.specs.declared.Reason.{Reason}
 
 -- "Block record, 512 bytes": what every byte string of the code is, no element above 255
 pub record ByteString (s : List ℕ) : Type 0 where
@@ -36,12 +35,12 @@ pub record Whole (b : Block) : Type 0 where
   pub entries : length b.entries ≡ 60
   pub each : (i : ℕ) → ByteEntry (get_or b.entries i no_entry)
 
--- "Every public function carries a promise": reading the bytes s, the answer is the verdict, and the block is the bytes' or
--- all zero
-pub record Reads (s : List ℕ) (r : Reading) : Type 0 where
+-- "Every public function carries a promise": reading the bytes s, the answer is the verdict, and the block is the bytes'. A
+-- refusal has none beside it
+pub record Reads (s : List ℕ) (r : Result Block Reason) : Type 0 where
   pub bytes : ByteString s
-  pub answer : meaning r.answer ≡ read_verdict s
-  pub block : r.block ≡ read_block s
+  pub answer : meaning r ≡ read_verdict s
+  pub block : IfOk r (λ b. b ≡ decoded s)
 
 -- "test a block value by 4 and 5": testing the block b, the answer is the verdict
 pub record TestsBlock (b : Block) (a : Answer) : Type 0 where

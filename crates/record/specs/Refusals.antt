@@ -1,16 +1,14 @@
 -- "Refusal numbers, tested in this order". The definitions stand in the order of the table: tests 1 to 6 here. Tests 7 to 9
 -- speak of latencies and play states; they stand in crates/play/specs/Refusals, 9 by `unfit` in crates/model/specs/Cycles.
-use Rattle.std.specs.Prelude.{ℕ, Bool, not, List, [], ◌∷◌, ◌++◌, length, ltb, eqb}
+use Rattle.std.specs.Prelude.{ℕ, Bool, not, List, [], ◌∷◌, ◌++◌, length, ltb, eqb, Result, Ok as Accepted, Err as Refused}
 use Rattle.lists.specs.Lists.{pick, least}
 use Rattle.lists.specs.Bytes.{little}
 use Rattle.record.specs.Check.{check_of}
 use Rattle.record.specs.Rules.{outside, broken}
-use Rattle.record.specs.Layout.{encoded, decoded, no_block}
+use Rattle.record.specs.Layout.{encoded}
 use Rattle.record.specs.declared.Block.{Block}
 use Rattle.record.specs.declared.Reason.{Reason}
 use Rattle.record.specs.declared.Reason.TheVariants.{Length, Check, Letters, Header, Rule, Output, Latencies, Latency, State}
-use Rattle.record.specs.declared.Answer.{Answer}
-use Rattle.record.specs.declared.Answer.TheVariants.{Accepted, Refused}
 
 -- the number that the table gives a reason
 abbrev pub number_of : Reason → ℕ
@@ -36,9 +34,14 @@ place_of Latencies = 0
 place_of (Latency i) = i
 place_of State = 0
 
--- what an answer means: "A refusal is a number with the place of the first fault"; accepted is 0 and 0
-abbrev pub meaning : Answer → ℕ × ℕ
-meaning Accepted = (0, 0)
+-- the answer of an operation that hands nothing else back
+abbrev pub Answer : Type 0
+Answer = Result (Unit {0}) Reason
+
+-- what an answer means, `Ok` being the case Accepted and `Err` the case Refused: "A refusal is a number with the place of the
+-- first fault"; accepted is 0 and 0
+abbrev pub meaning : {A : Type 0} → Result A Reason → ℕ × ℕ
+meaning (Accepted x) = (0, 0)
 meaning (Refused r) = (number_of r, place_of r)
 
 -- a test, one for each number of the table: the reason of its refusal, and whether the refusal is given
@@ -110,10 +113,6 @@ write_verdict b o = verdict (write_tests b o)
 -- no refusal is given
 abbrev pub accepts : ℕ × ℕ → Bool
 accepts v = eqb v.0 0
-
--- "any other value handed back beside a refusal is all zero"
-unfoldable pub read_block : List ℕ → Block
-read_block s = pick (accepts (read_verdict s)) (decoded s) no_block
 
 -- at a refusal "no lent byte or number is written": what the output holds at the end
 unfoldable pub written : Block → List ℕ → List ℕ

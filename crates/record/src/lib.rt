@@ -26,7 +26,7 @@ pub const ZERO1: usize = 6;
 
 pub const ZERO2: usize = 7;
 
-#[derive(Clone, Copy)]
+#[derive(Clone, Copy, Debug, PartialEq, Eq, Default)]
 pub struct Entry {
     pub kind: u8,
     pub lo: u8,
@@ -36,7 +36,7 @@ pub struct Entry {
     pub reads2: u8,
 }
 
-#[derive(Clone, Copy)]
+#[derive(Clone, Copy, Debug, PartialEq, Eq)]
 pub struct Block {
     pub n: u8,
     pub q: u8,
@@ -49,8 +49,9 @@ pub struct Block {
     pub entries: [Entry; 60],
 }
 
-// Why an input is refused, for every operation of the bench, with the place where it varies.
-#[derive(Clone, Copy)]
+// Why an input is refused, for every operation of the bench, with the place where it varies. An operation answers a `Result`:
+// what it gives in `Ok`, or, in `Err`, why it refuses.
+#[derive(Clone, Copy, Debug, PartialEq, Eq)]
 pub enum Reason {
     Length,
     Check,
@@ -61,17 +62,4 @@ pub enum Reason {
     Latencies,
     Latency(usize),
     State,
-}
-
-#[derive(Clone, Copy)]
-pub enum Answer {
-    Accepted,
-    Refused(Reason),
-}
-
-// What reading gives: the answer, and beside it the block.
-#[derive(Clone, Copy)]
-pub struct Reading {
-    pub answer: Answer,
-    pub block: Block,
 }

@@ -11,26 +11,39 @@ const OUTPUT: i32 = 1;
 
 const ERRORS: i32 = 2;
 
-fn complain(what: &[u8]) {
+// Why a report ends early.
+#[derive(Clone, Copy)]
+enum Trouble {
+    Output,
+    Input,
+    Length,
+}
+
+// Says so.
+fn complain(trouble: Trouble) {
+    let what: &[u8] = match trouble {
+        Trouble::Output => b"report: the output broke off\n",
+        Trouble::Input => b"report: the input broke off\n",
+        Trouble::Length => b"report: what follows 281474976645120 bytes was not read\n",
+    };
     io::write_all(ERRORS, what);
 }
 
-// Writes a text. Says so where that fails, and gives whether it was done.
-fn print(text: &[u8]) -> bool {
-    let done = io::write_all(OUTPUT, text);
-    if !done {
-        complain(b"report: the output broke off\n");
+// Writes a text.
+fn print(text: &[u8]) -> Result<(), Trouble> {
+    if io::write_all(OUTPUT, text) {
+        Ok(())
+    } else {
+        Err(Trouble::Output)
     }
-    done
 }
 
-// Says so where the input has broken off: after a piece that came short, a read fails or gives bytes after all.
-fn end(rt: &HostRuntime) {
+// Whether the input has ended after a piece that came short: else a read fails or gives bytes after all.
+fn end(rt: &HostRuntime) -> Result<(), Trouble> {
     let mut byte = [0u8; 1];
     match rt.stdin().read(&mut byte) {
-        Ok(0) => {}
-        Ok(_) => complain(b"report: the input broke off\n"),
-        Err(_) => complain(b"report: the input broke off\n"),
+        Ok(0) => Ok(()),
+        _ => Err(Trouble::Input),
     }
 }
 
@@ -39,30 +52,31 @@ fn room() -> [u8; 16384] {
 }
 
 // Reads a piece and writes its lines. Gives whether another may follow.
-fn piece_on(rt: &HostRuntime, piece: u32) -> bool {
+fn piece_on(rt: &HostRuntime, piece: u32) -> Result<bool, Trouble> {
     let mut bytes = io::large_buffer();
     let got = io::read_full(INPUT, &mut bytes);
     let mut text = room();
     let n = report_lines::lines_into(&bytes[..got], piece, &mut text);
-    if !print(&text[..n]) {
-        return false;
-    }
+    print(&text[..n])?;
     if got < 65536 {
-        end(rt);
-        return false;
+        end(rt)?;
+        return Ok(false);
     }
-    true
+    Ok(true)
+}
+
+fn report(rt: &HostRuntime) -> Result<(), Trouble> {
+    print(&report_lines::header())?;
+    for piece in 0..u32::MAX {
+        if !piece_on(rt, piece)? {
+            return Ok(());
+        }
+    }
+    Err(Trouble::Length)
 }
 
 fn main(rt: HostRuntime) {
-    let head = report_lines::header();
-    if !print(&head) {
-        return;
+    if let Err(trouble) = report(&rt) {
+        complain(trouble);
     }
-    for piece in 0..u32::MAX {
-        if !piece_on(&rt, piece) {
-            return;
-        }
-    }
-    complain(b"report: what follows 281474976645120 bytes was not read\n");
 }

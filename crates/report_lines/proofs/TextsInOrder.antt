@@ -1,17 +1,18 @@
 -- Texts put one after the other. Assumes nothing.
 use mathlib.Core.Path.{◌≡◌, refl, sym, ◌∙◌}
 use mathlib.Core.List.{List, [], ◌∷◌, ◌++◌, append_assoc}
-use Prim.Native.Nat.{ℕ, ◌+◌, ◌≤◌, ◌<◌}
+use Prim.Native.Nat.{ℕ, ◌+◌, ◌≤◌}
 use native.Mathlib.Nat.{add_assoc, zero-add}
 use native.Mathlib.Numerals.{add-one}
 use native.Mathlib.Omega.{arith}
-use lib.ListN.{length, take, drop, set, length-append, length-drop}
-use lib.Seq.{length-take-le, sets-eq}
+use lib.ListN.{length, take, drop, length-append, length-drop}
+use lib.Seq.{length-take-le}
 use Rattle.io.specs.Counts.{IsPrefixLen}
 use Rattle.lists.specs.Lists.{joined, put}
 use Rattle.lists.proofs.JoinedPieces.{put_next}
 use Rattle.report_lines.specs.Text.{spaced}
-use Rattle.report_lines.specs.inside.TextSteps.{Puts}
+use Rattle.report_lines.specs.declared.fields.Output.{Output}
+use Rattle.report_lines.specs.inside.TextSteps.{Adds, Room}
 
 module _ (o : List ℕ) (i : ℕ) (xs : List ℕ) where
   length_front : i ≤ length o → length (take i o ++ xs) ≡ i + length xs
@@ -29,10 +30,6 @@ module _ (o : List ℕ) (i : ℕ) (xs : List ℕ) where
       (put_next (take i o ++ xs) ys o (i + length xs) (length_front l)
       ∙ rw (length-append xs ys, ← add_assoc i (length xs) (length ys), append_assoc (take i o) xs ys) refl)
 
-  -- one byte behind a text
-  pub put_end : (e j : ℕ) → i + length xs < length o → j ≡ i + length xs → set (put o i xs) j e ≡ put o i (xs ++ (e ∷ []))
-  put_end e j l s = sets-eq (e ∷ []) (put o i xs) j (omega (arith, length_put (omega arith))) ∙ put_put (e ∷ []) j (omega arith) s
-
 -- a text at the start of o has as many bytes as it is long
 pub put_counts : (o xs p : List ℕ) (r : ℕ) → r ≡ length xs → p ≡ put o 0 xs → IsPrefixLen r p
 put_counts o xs p r n e =
@@ -40,49 +37,53 @@ put_counts o xs p r n e =
     let m : r ≤ length p = rw e (omega (arith, l)) in
     (m, sym (length-take-le r p m))
 
--- a field and the byte that ends it, put at place i of o, leave p, and the place after them is j
-pub record Field (o : List ℕ) (i : ℕ) (x : List ℕ) (end : ℕ) (p : List ℕ) (j : ℕ) : Type 0 where
-  pub next : j ≡ i + length (x ++ (end ∷ []))
-  pub text : p ≡ put o i (x ++ (end ∷ []))
+-- an output has as many bytes as before a text was added
+pub same_length : {x : List ℕ} {n k : ℕ} {p q : Output} → Room p k → n ≤ k → Adds x n p q → length q.bytes.now ≡ length p.bytes.now
+same_length {x} {p = p} l e f = rw f.puts.output (length_put p.bytes.now p.at x (omega (arith, f.puts.next, f.puts.few)))
 
--- the same of the last fields of a line
-pub record Fields (o : List ℕ) (i : ℕ) (xs : List (List ℕ)) (p : List ℕ) (j : ℕ) : Type 0 where
-  pub next : j ≡ i + length (spaced xs)
-  pub text : p ≡ put o i (spaced xs)
+-- and behind that text there is the room that is left
+room_after : {x : List ℕ} {n k : ℕ} {p q : Output} (m : ℕ) → Room p k → n + m ≤ k → Adds x n p q → Room q m
+room_after m l e f = rw (same_length l (omega arith) f) (omega (arith, f.puts.few))
 
-pub last_field : {o x p : List ℕ} {i j : ℕ} → Field o i x 10 p j → Fields o i (x ∷ []) p j
-unfolding spaced
-last_field f = record { next = f.next; text = f.text }
-
-pub more_fields : {o x p y q : List ℕ} {ys : List (List ℕ)} {i j k : ℕ} → i ≤ length o → Field o i x 32 p j → Fields p j (y ∷ ys) q k
-    → Fields o i (x ∷ y ∷ ys) q k
-unfolding spaced
-more_fields {o} {x} {p} {y} {q} {ys} {i} {j} l f g =
-    let e : x ++ (32 ∷ []) ++ spaced (y ∷ ys) ≡ x ++ (32 ∷ spaced (y ∷ ys)) = append_assoc x (32 ∷ []) (spaced (y ∷ ys)) in
-    let n = length-append (x ++ (32 ∷ [])) (spaced (y ∷ ys)) in
+-- one text added behind another is their sum
+pub adds_next : {x y : List ℕ} {n k : ℕ} {p q r : Output} (m : ℕ) → Room p k → n + m ≤ k → Adds x n p q → (Room q m → Adds y m q r) → Adds (x ++ y) k p r
+adds_next {x} {y} {p = p} {q = q} m l e f more =
+    let g = more (room_after m l e f) in
     record {
-      next = rw (← e) (omega (arith, f.next, g.next));
-      text = g.text ∙ rw (f.text, ← e) (put_put o i (x ++ (32 ∷ [])) (spaced (y ∷ ys)) j l f.next);
+      same_reference = g.same_reference ∙ f.same_reference;
+      puts =
+          record {
+            next = omega (arith, f.puts.next, g.puts.next, length-append x y);
+            few = omega (arith, f.puts.few, g.puts.few);
+            output = g.puts.output ∙ rw f.puts.output (put_put p.bytes.now p.at x y q.at (omega arith) f.puts.next);
+          };
     }
 
--- a field from what was put, and what was put from fields
-pub field_put : {o p x : List ℕ} {i j most : ℕ} (end : ℕ) → Puts (x ++ (end ∷ [])) o i most j p → Field o i x end p j
-field_put end f = record { next = f.next; text = f.output }
-
-pub fields_put : {o p : List ℕ} {xs : List (List ℕ)} {i j most : ℕ} → Fields o i xs p j → j ≤ i + most → Puts (spaced xs) o i most j p
-fields_put f few = record { next = f.next; few = few; output = f.text }
-
 -- the same text under another name, and with more room
-pub puts_as : {x y o p : List ℕ} {i j most : ℕ} → x ≡ y → Puts y o i most j p → Puts x o i most j p
-puts_as e f = rw e f
+pub adds_as : {x y : List ℕ} {n k : ℕ} {p q : Output} → x ≡ y → n ≤ k → Adds y n p q → Adds x k p q
+adds_as e l f =
+    rw e
+    (record {
+      same_reference = f.same_reference;
+      puts = record { next = f.puts.next; few = omega (arith, f.puts.few); output = f.puts.output };
+    })
 
-pub puts_more : {x y o p : List ℕ} {i j most more : ℕ} → x ≡ y → most ≤ more → Puts y o i most j p → Puts x o i more j p
-puts_more e l f = rw e (record { next = f.next; few = omega (arith, f.few); output = f.output })
+-- the last field of a line, and one before others
+spaced_one : (x : List ℕ) → spaced (x ∷ []) ≡ x ++ (10 ∷ [])
+unfolding spaced
+spaced_one x = refl
 
--- one byte behind a text that was put
-pub ended : (o : List ℕ) (i : ℕ) (xs : List ℕ) (e j : ℕ) (p : List ℕ) → Puts xs o i (length xs) j p → i + length xs < length o
-    → set p j e ≡ put o i (xs ++ (e ∷ []))
-ended o i xs e j p f l = rw f.output (put_end o i xs e j l f.next)
+spaced_more : (x y : List ℕ) (ys : List (List ℕ)) → spaced (x ∷ y ∷ ys) ≡ (x ++ (32 ∷ [])) ++ spaced (y ∷ ys)
+unfolding spaced
+spaced_more x y ys = sym (append_assoc x (32 ∷ []) (spaced (y ∷ ys)))
+
+pub last_field : (x : List ℕ) {n : ℕ} {p q : Output} → Adds (x ++ (10 ∷ [])) n p q → Adds (spaced (x ∷ [])) n p q
+last_field x f = rw (spaced_one x) f
+
+pub more_fields : (x y : List ℕ) (ys : List (List ℕ)) {n k : ℕ} {p q r : Output} (m : ℕ) → Room p k → n + m ≤ k → Adds (x ++ (32 ∷ [])) n p q
+    → (Room q m → Adds (spaced (y ∷ ys)) m q r)
+    → Adds (spaced (x ∷ y ∷ ys)) k p r
+more_fields x y ys m l e f more = rw (spaced_more x y ys) (adds_next m l e f more)
 
 -- k texts one after the other from the start of o, and one more behind them
 pub texts_more : (f : ℕ → List ℕ) (o p q x : List ℕ) (k i j : ℕ) → x ≡ f k → i ≡ length (joined k f) → p ≡ put o 0 (joined k f)

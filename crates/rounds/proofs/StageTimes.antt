@@ -21,6 +21,7 @@ use Rattle.model.proofs.Latencies.{highest_ex, highest_if, highest_else, lowest_
 use Rattle.model.proofs.Limits.{earliest_limit, round_limit}
 use Rattle.model.proofs.RoundRules.{ex_short}
 use Rattle.model.proofs.TimesInOrder.{latest_looks, ready_looks}
+use Rattle.unpacked.specs.declared.Instruction.{Instruction}
 use Rattle.unpacked.specs.inside.ReadyByStage.{ready_ex, ready_wb}
 use Rattle.unpacked.specs.inside.UnpackedBlock.{code, high_of}
 use Rattle.unpacked.proofs.ReadyTimes.{ready_cm_lem, ready_ex_lem, ready_id_lem, ready_if_lem, ready_wb_lem}
@@ -31,7 +32,7 @@ use Rattle.rounds.proofs.TimesFilled.{Stepped}
 -- ---- the latest start of an EX
 module _ (b : Block) (A : Ranges b) where
   -- u has the highest latencies
-  pub latest_short : (p : ℕ → ℕ → Bool) → Even b.n p → (u s row : List ℕ) (most i r : ℕ) → i < b.n
+  pub latest_short : (p : ℕ → ℕ → Bool) → Even b.n p → (u : List Instruction) (s row : List ℕ) (most i r : ℕ) → i < b.n
       → ((j : ℕ) → j < b.n → high_of u j ≡ (entry b j).hi)
       → row ≡ numbers_where 0 i (p i) → most ≡ largest (map (λ j. high_of u j) (numbers_where (i + 1) b.n (λ j. p j i)))
       → latest_of u s row most r ≡ latest_ex b p s i r

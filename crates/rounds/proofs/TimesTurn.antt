@@ -14,6 +14,7 @@ use Rattle.model.specs.Nodes.{EX, entry, lowest, node, nodes}
 use Rattle.model.specs.Paths.{Pairs}
 use Rattle.model.specs.Rounds.{latest_start, rival}
 use Rattle.model.proofs.Latencies.{lowest_if, lowest_else}
+use Rattle.unpacked.specs.declared.Instruction.{Instruction}
 use Rattle.unpacked.specs.declared.Shape.{Shape}
 use Rattle.unpacked.specs.inside.ReadyByStage.{ready_ex}
 use Rattle.unpacked.specs.inside.UnpackedBlock.{Unpacked, first_of, high_of, low_of, second_of}
@@ -23,7 +24,7 @@ use Rattle.rounds.specs.inside.FiveStarts.{committed, fetched, latest_of}
 use Rattle.rounds.proofs.StageTimes.{earliest_stepped, latest_at_ex, latest_short, round_stepped}
 use Rattle.rounds.proofs.TimesFilled.{Stepped, row_filled}
 
-module _ (b : Block) (h : Shape) (u : List ℕ) (U : Unpacked b h u) (s₀ : List ℕ) (long : length s₀ ≡ 300) (i : ℕ) (few : i < h.n) where
+module _ (b : Block) (h : Shape) (u : List Instruction) (U : Unpacked b h u) (s₀ : List ℕ) (long : length s₀ ≡ 300) (i : ℕ) (few : i < h.n) where
   A : Ranges b
   A = ranges b U.accepted
 
@@ -44,14 +45,14 @@ module _ (b : Block) (h : Shape) (u : List ℕ) (U : Unpacked b h u) (s₀ : Lis
       rw c' (row_filled b lat rule S s₀ room i s x i_below_n e q')
 
   sources_ready : (s : List ℕ) → ready_ex (first_of u i) (second_of u i) s i ≡ ready b (lowest b) s (node EX i)
-  sources_ready s = rw (U.columns.first i i_below_n, U.columns.second i i_below_n) (sym (ready_ex_lem b (lowest b) (lowest_if b) (lowest_else b) s i))
+  sources_ready s = rw (U.instructions.first i i_below_n, U.instructions.second i i_below_n) (sym (ready_ex_lem b (lowest b) (lowest_if b) (lowest_else b) s i))
 
   pub earliest_turn : (s s₁ s₂ : List ℕ) (x y : ℕ)
       → Filled (ready b (lowest b)) s₀ (5 * i) s → s₁ ≡ fetched h.q h.f h.w h.d s i → x ≡ ready_ex (first_of u i) (second_of u i) s₁ i
       → y ≡ low_of u i → s₂ ≡ committed h.c y x s₁ i → Filled (ready b (lowest b)) s₀ (5 * (i + 1)) s₂
   earliest_turn s s₁ s₂ x y e a q m c =
       turn (λ j. (entry b j).lo) (ready b (lowest b)) (earliest_stepped b A U.shape.most) s s₁ s₂ x y e a (q ∙ sources_ready s₁)
-      (m ∙ U.columns.low i i_below_n) c
+      (m ∙ U.instructions.low i i_below_n) c
 
   pub round_turn : (con known : Pairs) → Even b.n (rival con known)
       → (row : List ℕ) (most : ℕ) → row ≡ numbers_where 0 i (rival con known i)
@@ -61,7 +62,7 @@ module _ (b : Block) (h : Shape) (u : List ℕ) (U : Unpacked b h u) (s₀ : Lis
       → x ≡ latest_of u s₁ row most r → y ≡ high_of u i → s₂ ≡ committed h.c y x s₁ i → Filled (latest_start b (rival con known)) s₀ (5 * (i + 1)) s₂
   round_turn con known even row most these later s s₁ s₂ r x y e a q z m c =
       let at : x ≡ latest_start b (rival con known) s₁ (node EX i)
-      = z ∙ latest_short b A (rival con known) even u s₁ row most i r i_below_n U.columns.high these later
-      ∙ rw (q, U.columns.first i i_below_n, U.columns.second i i_below_n) (sym (latest_at_ex b A U.shape.most con known s₁ i)) in
+      = z ∙ latest_short b A (rival con known) even u s₁ row most i r i_below_n U.instructions.high these later
+      ∙ rw (q, U.instructions.first i i_below_n, U.instructions.second i i_below_n) (sym (latest_at_ex b A U.shape.most con known s₁ i)) in
       turn (λ j. (entry b j).hi) (latest_start b (rival con known)) (round_stepped b A U.shape.most con known) s s₁ s₂ x y e a at
-      (m ∙ U.columns.high i i_below_n) c
+      (m ∙ U.instructions.high i i_below_n) c

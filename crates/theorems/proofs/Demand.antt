@@ -8,8 +8,8 @@ use native.Mathlib.Omega.{arith}
 use lib.ListN.{get_or}
 use Rattle.lists.specs.Bytes.{little}
 use Rattle.record.specs.Promises.{Whole}
-use Rattle.record.specs.declared.Answer.{Answer}
-use Rattle.record.specs.declared.Answer.TheVariants.{Accepted}
+use Rattle.record.specs.Refusals.{Answer}
+use Rattle.std.specs.Prelude.{Result, Ok as Accepted}
 use Rattle.record.specs.declared.Block.{Block}
 use Rattle.record.proofs.AcceptedRanges.{ranges}
 use Rattle.model.specs.Nodes.{nodes, entry, chosen}
@@ -20,10 +20,9 @@ use Rattle.model.proofs.RoundsEnd.{rounds_most as settled-most}
 use Rattle.model.proofs.Limits.{bound_limit as model-limit}
 use Rattle.model.proofs.Chains.{contend_near as model-near}
 use Rattle.analysis.specs.Promises.{Analyses, WritesWindows}
-use Rattle.play.specs.Promises.{PlaysCycle, Plays, GivesPlayLength}
+use Rattle.play.specs.Promises.{answer_of, PlaysCycle, Plays, GivesPlayLength}
 use Rattle.play.specs.declared.PlayState.{PlayState}
-use Rattle.play.specs.declared.Step.{Step}
-use Rattle.play.specs.declared.PlayLength.{PlayLength}
+use Rattle.play.specs.declared.RefusedCycle.{RefusedCycle}
 use Rattle.theorems.specs.Words.{AcceptedBlock, AcceptedList, Within, Inside, StartsInTime, Steps, TimesKept}
 use Rattle.theorems.specs.RoundByRound.{known_at, late_at, apart_by, apart_at}
 use Rattle.theorems.proofs.KnownPairs.{last_round}
@@ -82,22 +81,21 @@ module _ (b : Block) (whole : Whole b) (accepted : AcceptedBlock b) where
 -- ---- the same of whatever the operations give
 module _ (b : Block) (l : List ℕ) where
   -- "Every play stays inside the windows": what a play writes lies within what `windows` writes
-  pub outcomes_inside : (o o' : List ℕ) (a : Answer) → WritesWindows b o a o' → a ≡ Accepted
-      → (q q' : List ℕ) (c : Answer) → Plays b l q c q' → c ≡ Accepted
+  pub outcomes_inside : (o o' : List ℕ) (a : Answer) → WritesWindows b o a o' → a ≡ Accepted tt
+      → (q q' : List ℕ) (c : Answer) → Plays b l q c q' → c ≡ Accepted tt
       → (v k : ℕ) → v < nodes b → k < 3
       → Within (get_or o' (window_place v k) 0) (get_or q' (play_place v k) 0) (get_or o' (window_place v (3 + k)) 0)
   outcomes_inside = written_within b l
 
   -- and every number that the result record has for an instruction
-  pub outcomes_times : (o o' : List ℕ) (a : Answer) → Analyses b o a o' → a ≡ Accepted
-      → (q q' : List ℕ) (c : Answer) → Plays b l q c q' → c ≡ Accepted
+  pub outcomes_times : (o o' : List ℕ) (a : Answer) → Analyses b o a o' → a ≡ Accepted tt
+      → (q q' : List ℕ) (c : Answer) → Plays b l q c q' → c ≡ Accepted tt
       → (i : ℕ) → i < b.n → TimesKept o' q' i
   outcomes_times = times_kept b l
 
   -- "the last commit is by the bound": the length of a play is at most the bound in bytes 6 and 7 of the result record
-  pub outcomes_bound : (o o' : List ℕ) (a : Answer) → Analyses b o a o' → a ≡ Accepted
-      → (r : PlayLength) → GivesPlayLength b l r → r.answer ≡ Accepted
-      → r.cycles ≤ little 2 o' 6
+  pub outcomes_bound : (o o' : List ℕ) (a : Answer) → Analyses b o a o' → a ≡ Accepted tt
+      → (k : ℕ) → GivesPlayLength b l (Accepted k) → k ≤ little 2 o' 6
   outcomes_bound = given_bound b l
 
   -- "One cycle of play takes the state and gives back the next": k accepted cycles from the first state give the cycle number
@@ -110,13 +108,13 @@ module _ (b : Block) (l : List ℕ) where
   steps_table = stepping-table b l
 
   -- so they are those that a play writes
-  pub steps_written : (o o' : List ℕ) (a : Answer) → Plays b l o a o' → a ≡ Accepted → (p : PlayState) → Steps b l (cycles_each * b.n) p
+  pub steps_written : (o o' : List ℕ) (a : Answer) → Plays b l o a o' → a ≡ Accepted tt → (p : PlayState) → Steps b l (cycles_each * b.n) p
       → (v : ℕ) → v < nodes b → get_or p.starts v 0 ≡ get_or o' (play_place v 1) 0
   steps_written = stepping-written b l
 
 -- and none of them is refused: before the first, the verdicts on block and list have to be given
 pub steps_accepted : (b : Block) → AcceptedBlock b → (l : List ℕ) → AcceptedList b l → (k : ℕ) → k < cycles_each * b.n
-    → (p : PlayState) → Steps b l k p → (r : Step) → PlaysCycle b l p r → r.answer ≡ Accepted
+    → (p : PlayState) → Steps b l k p → (r : Result PlayState RefusedCycle) → PlaysCycle b l p r → answer_of r ≡ Accepted tt
 steps_accepted = stepping-accepted
 
 -- ---- "Prove: rounds are at most contending pairs plus 1; no time exceeds 513 × n, so 30,780."

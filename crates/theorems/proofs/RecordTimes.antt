@@ -15,8 +15,8 @@ use Rattle.lists.proofs.Bools.{by_test}
 use Rattle.lists.proofs.JoinedPieces.{length_joined, get_or_joined}
 use Rattle.lists.proofs.Little.{length_bytes, little_ext, little_bytes}
 use Rattle.record.specs.Check.{check_of}
-use Rattle.record.specs.declared.Answer.{Answer}
-use Rattle.record.specs.declared.Answer.TheVariants.{Accepted}
+use Rattle.record.specs.Refusals.{Answer}
+use Rattle.std.specs.Prelude.{Ok as Accepted}
 use Rattle.record.specs.declared.Block.{Block}
 use Rattle.record.proofs.Answers.{accepted_so}
 use Rattle.record.proofs.AcceptedRanges.{ranges}
@@ -97,8 +97,8 @@ module _ (b : Block) where
         ∙ little_bytes 2 (get_or (four_times b i) k 0) (omega (arith, four_limit i k h q))
 
 -- ---- EVERY PLAY KEEPS THEM
-pub times_kept : (b : Block) (l o o' : List ℕ) (a : Answer) → Analyses b o a o' → a ≡ Accepted
-    → (q q' : List ℕ) (c : Answer) → Plays b l q c q' → c ≡ Accepted → (i : ℕ) → i < b.n → TimesKept o' q' i
+pub times_kept : (b : Block) (l o o' : List ℕ) (a : Answer) → Analyses b o a o' → a ≡ Accepted tt
+    → (q q' : List ℕ) (c : Answer) → Plays b l q c q' → c ≡ Accepted tt → (i : ℕ) → i < b.n → TimesKept o' q' i
 unfolding three_times
 times_kept b l o o' a x e q q' c y f i h =
     let ex : node EX i < nodes b = omega arith in

@@ -9,8 +9,8 @@ use Rattle.lists.specs.Bytes.{little, bytes}
 use Rattle.lists.proofs.Little.{little_ext, little_bytes, bytes_little}
 use Rattle.record.specs.Layout.{decoded}
 use Rattle.record.specs.Promises.{ByteString, Whole}
-use Rattle.record.specs.declared.Answer.{Answer}
-use Rattle.record.specs.declared.Answer.TheVariants.{Accepted}
+use Rattle.record.specs.Refusals.{Answer}
+use Rattle.std.specs.Prelude.{Ok as Accepted}
 use Rattle.record.specs.declared.Block.{Block}
 use Rattle.model.specs.Rounds.{bound}
 use Rattle.analysis.specs.Result.{head_of, result_head, result_body, result_record, summary_of, analysed}
@@ -44,7 +44,7 @@ module _ (b : Block) where
   number_bytes w = little_ext 4 (result_record b) (bytes 4 b.number) 8 0 (λ k q. rw zero-add (number_byte k q)) ∙ little_bytes 4 b.number w.number
 
 -- an accepted analysis leaves the result record
-pub analysed_result : (b : Block) (o o' : List ℕ) (a : Answer) → Analyses b o a o' → a ≡ Accepted → o' ≡ result_record b
+pub analysed_result : (b : Block) (o o' : List ℕ) (a : Answer) → Analyses b o a o' → a ≡ Accepted tt → o' ≡ result_record b
 unfolding analysed
 analysed_result b o o' a x e = x.output ∙ (rw (accepted_so a e x.answer) refl)
 

@@ -16,8 +16,8 @@ use Rattle.lists.specs.Lists.{pick}
 use Rattle.lists.proofs.Bools.{by_test}
 use Rattle.record.specs.Refusals.{verdict, block_tests, header_test, entry_test}
 use Rattle.record.specs.Promises.{Whole}
-use Rattle.record.specs.declared.Answer.{Answer}
-use Rattle.record.specs.declared.Answer.TheVariants.{Accepted}
+use Rattle.record.specs.Refusals.{Answer}
+use Rattle.std.specs.Prelude.{Result, Ok as Accepted}
 use Rattle.record.specs.declared.Block.{Block}
 use Rattle.record.proofs.AcceptedRanges.{ranges}
 use Rattle.record.proofs.Answers.{meaning_one, accepted_so}
@@ -28,10 +28,10 @@ use Rattle.model.proofs.TableNumbers.{play_at}
 use Rattle.schedules.proofs.CycleTurns.{Known, begun as begun-turn, turns_length, turns_later, turns_below, turns_none, started_stays}
 use Rattle.schedules.proofs.PlaySchedule.{all_started_each, each_all_started, all_started_stays}
 use Rattle.play.specs.Refusals.{list_test, latency_test, state_test, list_tests, cycle_tests}
-use Rattle.play.specs.Promises.{state_of, stepped, PlaysCycle, Plays}
+use Rattle.play.specs.Promises.{state_of, answer_of, stepped, PlaysCycle, Plays}
 use Rattle.play.specs.inside.StartTest.{unfit_at}
 use Rattle.play.specs.declared.PlayState.{PlayState}
-use Rattle.play.specs.declared.Step.{Step}
+use Rattle.play.specs.declared.RefusedCycle.{RefusedCycle}
 use Rattle.play.proofs.Outcomes.{cycle_fine}
 use Rattle.play.proofs.UnfitStates.{unfit_none}
 use Rattle.theorems.specs.Words.{AcceptedBlock, AcceptedList, Steps, begun, on}
@@ -143,15 +143,15 @@ cycle_verdict b l p accepted listed fit =
 -- ---- stepping
 module _ (b : Block) (l : List ℕ) where
   -- an accepted cycle gives back the next state
-  accepted_next : (p : PlayState) (r : Step) → PlaysCycle b l p r → r.answer ≡ Accepted → state_of r.state ≡ cycle b (chosen b l) (state_of p)
+  accepted_next : (p q : PlayState) → PlaysCycle b l p (Accepted q) → state_of q ≡ cycle b (chosen b l) (state_of p)
   unfolding stepped
-  accepted_next p r x e = x.state ∙ (rw (accepted_so r.answer e x.answer) refl)
+  accepted_next p q x = x.state ∙ (rw (← x.answer) refl)
 
   steps_cycles : {k : ℕ} {p : PlayState} → Steps b l k p → state_of p ≡ cycles k b (chosen b l) first_state
   unfolding cycles
   steps_cycles (begun e) = e
-  steps_cycles (on {k} {p} {q} {r} s x e f) =
-      ap state_of (sym f) ∙ accepted_next p r x e ∙ ap (cycle b (chosen b l)) (steps_cycles s) ∙ sym (cycles_last b (chosen b l) k first_state)
+  steps_cycles (on {k} {p} {q} s x) =
+      accepted_next p q x ∙ ap (cycle b (chosen b l)) (steps_cycles s) ∙ sym (cycles_last b (chosen b l) k first_state)
 
   steps_number : {k : ℕ} {p : PlayState} → Steps b l k p → p.t ≡ k
   unfolding first_state
@@ -170,13 +170,13 @@ module _ (b : Block) (accepted : AcceptedBlock b) (l : List ℕ) (listed : Accep
   steps_reached {k} s = rw (steps_cycles b l s) (cycles_reached b few (chosen b l) k first_state (first_reached b few))
 
   -- up to the last cycle
-  pub steps_on : (k : ℕ) → k < most_cycles → (p : PlayState) → Steps b l k p → (r : Step) → PlaysCycle b l p r → r.answer ≡ Accepted
+  pub steps_on : (k : ℕ) → k < most_cycles → (p : PlayState) → Steps b l k p → (r : Result PlayState RefusedCycle) → PlaysCycle b l p r → answer_of r ≡ Accepted tt
   steps_on k h p s r x =
       let fit : unfit b (state_of p) ≡ false = reached_fit b few (state_of p) (omega (arith, steps_number b l s)) (steps_reached s) in
-      meaning_one r.answer Accepted (x.answer ∙ cycle_verdict b l (state_of p) accepted listed fit)
+      meaning_one (answer_of r) (Accepted tt) (x.answer ∙ cycle_verdict b l (state_of p) accepted listed fit)
 
   -- a play has no more of them than 513 × n cycles
-  pub steps_accepted : (k : ℕ) → k < cycles_each * b.n → (p : PlayState) → Steps b l k p → (r : Step) → PlaysCycle b l p r → r.answer ≡ Accepted
+  pub steps_accepted : (k : ℕ) → k < cycles_each * b.n → (p : PlayState) → Steps b l k p → (r : Result PlayState RefusedCycle) → PlaysCycle b l p r → answer_of r ≡ Accepted tt
   steps_accepted k h = steps_on k (omega (arith, few))
 
 -- ---- after 513 × n cycles the starts are those of the play
@@ -189,8 +189,8 @@ record Fit (b : Block) (l : List ℕ) : Type 0 where
 
 steps_fit : (b : Block) (l : List ℕ) {k : ℕ} {p : PlayState} → 0 < k → Steps b l k p → Fit b l
 steps_fit b l h (begun e) = absurd (omega arith)
-steps_fit b l h (on {k} {p} {q} {r} s x e f) =
-    let c = cycle_fine b l p (accepted_so r.answer e x.answer) in
+steps_fit b l h (on {k} {p} {q} s x) =
+    let c = cycle_fine b l p (sym x.answer) in
     record { whole = x.whole; accepted = c.0; listed = c.1 }
 
 -- a block of no instructions has all started from the first
@@ -210,7 +210,7 @@ steps_table b l p s =
     ap (λ (q : State). q.starts) (none_started b (chosen b l) few (cycles_each * b.n) ∙ sym (none_started b (chosen b l) few most_cycles)))
 
 -- and those that a play writes
-pub steps_written : (b : Block) (l o o' : List ℕ) (a : Answer) → Plays b l o a o' → a ≡ Accepted → (p : PlayState) → Steps b l (cycles_each * b.n) p
+pub steps_written : (b : Block) (l o o' : List ℕ) (a : Answer) → Plays b l o a o' → a ≡ Accepted tt → (p : PlayState) → Steps b l (cycles_each * b.n) p
     → (v : ℕ) → v < nodes b → get_or p.starts v 0 ≡ get_or o' (play_place v 1) 0
 unfolding three_times
 steps_written b l o o' a x e p s v h =

@@ -5,8 +5,8 @@ use mathlib.Core.Path.{◌≡◌, refl, ap, ◌∙◌}
 use mathlib.Core.List.{List, ◌++◌}
 use native.Mathlib.Omega.{arith}
 use lib.ListN.{get_or, drop, get_or-append}
-use Rattle.record.specs.declared.Answer.{Answer}
-use Rattle.record.specs.declared.Answer.TheVariants.{Accepted}
+use Rattle.record.specs.Refusals.{Answer}
+use Rattle.std.specs.Prelude.{Ok as Accepted}
 use Rattle.record.specs.declared.Block.{Block}
 use Rattle.record.proofs.AcceptedRanges.{Ranges, ranges}
 use Rattle.model.specs.Nodes.{nodes, entry, instruction, highest, chosen}
@@ -62,14 +62,14 @@ module _ (b : Block) where
         omega (arith, ap (λ (x : ℕ). get_or (window_table b) x 0) e, window_at b v k l q, each_few v k l q)
 
 -- ---- what the operations leave in their outputs has the tables at its front
-pub window_kept : (b : Block) (o o' : List ℕ) (a : Answer) → WritesWindows b o a o' → a ≡ Accepted → (k : ℕ) → k < window_numbers b
+pub window_kept : (b : Block) (o o' : List ℕ) (a : Answer) → WritesWindows b o a o' → a ≡ Accepted tt → (k : ℕ) → k < window_numbers b
     → get_or o' k 0 ≡ get_or (window_table b) k 0
 unfolding tabled
 window_kept b o o' a x e k h =
     let i : o' ≡ window_table b ++ drop (window_numbers b) o = x.output ∙ (rw (accepted_so a e x.answer) refl) in
     rw i (get_or-append (window_table b) (drop (window_numbers b) o) 0 k (omega (arith, length_windows b)))
 
-pub play_kept : (b : Block) (l o o' : List ℕ) (a : Answer) → Plays b l o a o' → a ≡ Accepted → (k : ℕ) → k < play_numbers b
+pub play_kept : (b : Block) (l o o' : List ℕ) (a : Answer) → Plays b l o a o' → a ≡ Accepted tt → (k : ℕ) → k < play_numbers b
     → get_or o' k 0 ≡ get_or (play_table b (chosen b l)) k 0
 unfolding played
 play_kept b l o o' a x e k h =

@@ -6,7 +6,7 @@ use Rattle.lists.specs.Lists.{tab}
 use Rattle.lists.specs.Bytes.{little}
 use Rattle.record.specs.Refusals.{verdict, block_verdict}
 use Rattle.record.specs.Promises.{Whole}
-use Rattle.record.specs.declared.Answer.TheVariants.{Accepted}
+use Rattle.std.specs.Prelude.{Ok as Accepted}
 use Rattle.record.specs.declared.Block.{Block}
 use Rattle.model.specs.Nodes.{EX, CM, nodes, node, entry, lowest, highest, chosen}
 use Rattle.model.specs.Cycles.{start, started, finish, ready, first_state, play_on, play, play_length, play_place}
@@ -15,7 +15,6 @@ use Rattle.model.specs.Blocks.{block_e}
 use Rattle.play.specs.Refusals.{list_tests}
 use Rattle.play.specs.Promises.{state_of, PlaysCycle}
 use Rattle.play.specs.declared.PlayState.{PlayState}
-use Rattle.play.specs.declared.Step.{Step}
 
 -- a block that tests 4 and 5 accept
 abbrev pub AcceptedBlock : Block → Type 0
@@ -64,7 +63,7 @@ AnomalyOfE = Anomaly block_e (1 ∷ 4 ∷ 4 ∷ 12 ∷ []) 23 27
 -- whatever value that keeps the promise of a cycle was given back
 pub data Steps (b : Block) (l : List ℕ) : ℕ → PlayState → Type 0 where
   begun : {p : PlayState} → state_of p ≡ first_state → Steps b l zero p
-  on : {k : ℕ} {p q : PlayState} {r : Step} → Steps b l k p → PlaysCycle b l p r → r.answer ≡ Accepted → r.state ≡ q → Steps b l (suc k) q
+  on : {k : ℕ} {p q : PlayState} → Steps b l k p → PlaysCycle b l p (Accepted q) → Steps b l (suc k) q
 
 -- "per instruction four 16-bit numbers of its EX and CM: EX earliest start, EX latest start, EX latest finish, CM latest
 -- finish": of instruction i, o having the result record and q the play table, EX starts between the first two and finishes by

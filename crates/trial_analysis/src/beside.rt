@@ -1,171 +1,173 @@
-// The bench beside the second analyser and player: every number of result records, window tables and plays, and each play
-// inside its windows.
+// The bench beside the second analyser and player: every number of result records, window tables and plays, and each
+// play inside its windows.
 use crate::shapes::{result_of, shaped, words_of};
 use record::Block;
-use trial_blocks::latencies::latencies;
-use trial_blocks::made::next;
-use trial_blocks::show::{count, more_if, named, text};
-use trial_blocks::sums::wide;
+use std::array::from_fn;
+use std::fmt;
+use trial_blocks::latencies::{Way, latencies, list_of};
+use trial_blocks::seed::Seed;
+use trial_blocks::show::print;
+use trial_blocks::sums::FILLED;
+
+// A block, by its number among those made, and the window table that the bench gives it.
+#[derive(Drop)]
+struct Case {
+    number: usize,
+    block: Block,
+    windows: [u16; 1800],
+}
+
+// Where two lists first differ, and what stands there.
+#[derive(Clone, Copy)]
+struct Difference {
+    place: usize,
+    ours: u32,
+    second: u32,
+}
 
 // How many agree, and how many differ.
-#[derive(Clone, Copy)]
+#[derive(Clone, Copy, Default)]
 struct Tally {
-    results: usize,
+    blocks: usize,
     windows: usize,
+    results: usize,
     plays: usize,
+    agreed: usize,
     inside: usize,
     bounded: usize,
     differ: usize,
 }
 
-// Where two lists first differ, or their length.
-fn first(a: &[u16], b: &[u16]) -> usize {
-    for k in 0..a.len() {
-        if b.len() <= k {
-            return k;
+fn first_difference(ours: &[u16], second: &[u16]) -> Option<Difference> {
+    let mut pairs = ours.iter().zip(second).enumerate();
+    let (place, (x, y)) = pairs.find(|(_, (x, y))| x != y)?;
+    Some(Difference {
+        place,
+        ours: u32::from(*x),
+        second: u32::from(*y),
+    })
+}
+
+// Whether ready, start and finish of a node are within its window.
+fn within(window: &[u16; 6], times: &[u16; 3]) -> bool {
+    (0..3).all(|k| window[k] <= times[k] && times[k] <= window[k + 3])
+}
+
+// Whether the times of each node of n instructions are within their windows.
+fn inside(n: u8, windows: &[u16; 1800], played: &[u16; 900]) -> bool {
+    let windows = windows.as_chunks::<6>().0;
+    let played = played.as_chunks::<3>().0;
+    windows
+        .iter()
+        .zip(played)
+        .take(5 * usize::from(n))
+        .all(|(window, times)| within(window, times))
+}
+
+// One more where a test holds.
+fn counted(n: usize, test: bool) -> usize {
+    n.saturating_add(usize::from(test))
+}
+
+impl Tally {
+    // Whether there is no difference. Tells of one, where it is the first of all.
+    fn agree(&mut self, block: usize, name: &str, difference: Option<Difference>) -> bool {
+        let Some(d) = difference else {
+            return true;
+        };
+        if self.differ == 0 {
+            print(format_args!("first difference: block {block}, {name} {}", d.place));
+            print(format_args!(": ours {}, second {}\n", d.ours, d.second));
         }
-        if a[k] != b[k] {
-            return k;
-        }
+        self.differ = counted(self.differ, true);
+        false
     }
-    a.len()
-}
 
-fn at(s: &[u16], k: usize) -> usize {
-    if k < s.len() { wide(s[k]) as usize } else { 0 }
-}
+    // Takes in one play of a block, by the number of its list. The bound is the last number of the windows.
+    fn play(&mut self, case: &Case, list: usize, way: Way) {
+        let b = case.block;
+        let all = latencies(&b, way);
+        let own = list_of(&b, &all);
+        let mut ours = [FILLED; 900];
+        let _ = play::play(b, own, &mut ours);
+        let length = play::play_length(b, own).unwrap_or(0);
+        let mut second = [FILLED; 900];
+        let end = trial_second::play(b, &from_fn(|i| all[i]), &mut second);
+        let lengths = Difference {
+            place: list,
+            ours: u32::from(length),
+            second: end,
+        };
+        let bound = case.windows.iter().take(30 * usize::from(b.n)).last();
+        let same = self.agree(case.number, "play number", first_difference(&ours, &second))
+            && self.agree(
+                case.number,
+                "length of play",
+                (lengths.ours != end).then_some(lengths),
+            );
+        self.plays = counted(self.plays, true);
+        self.agreed = counted(self.agreed, same);
+        self.inside = counted(self.inside, inside(b.n, &case.windows, &ours));
+        self.bounded = counted(self.bounded, bound.is_some_and(|bound| length <= *bound));
+    }
 
-// Tells of a difference, where it is the first of all.
-fn tell(t: Tally, block: usize, name: &[u8], place: usize, ours: usize, other: usize) {
-    if t.differ == 0 {
-        named(b"first difference: block ", block);
-        named(name, place);
-        named(b": ours ", ours);
-        named(b", second ", other);
-        text(b"\n");
+    // Takes in four plays: all lowest latencies, all highest, and two lists that are drawn.
+    fn plays(&mut self, case: &Case, seed: Seed) {
+        let third = seed.next().next().next().next();
+        let fourth = third.next().next();
+        self.play(case, 0, Way::Lowest);
+        self.play(case, 1, Way::Highest);
+        self.play(case, 2, Way::Drawn(third));
+        self.play(case, 3, Way::Drawn(fourth));
+    }
+
+    // Takes in block k: its window table, its result record and its plays.
+    fn block(&mut self, k: usize, seed: Seed) {
+        let b = shaped(k, seed);
+        let mut ours = [FILLED; 1800];
+        let _ = analysis::windows(b, &mut ours);
+        let mut second = [FILLED; 1800];
+        let counts = trial_second::windows(b, &mut second);
+        let mut record = [170u8; 512];
+        let _ = analysis::analyse(b, &mut record);
+        let made = result_of(&b, &second, counts);
+        let windows = self.agree(k, "window number", first_difference(&ours, &second));
+        let results = self.agree(
+            k,
+            "result word",
+            first_difference(&words_of(&record), &made),
+        );
+        self.blocks = counted(self.blocks, true);
+        self.windows = counted(self.windows, windows);
+        self.results = counted(self.results, results);
+        let case = Case {
+            number: k,
+            block: b,
+            windows: ours,
+        };
+        self.plays(&case, seed);
     }
 }
 
-// Whether two lists agree.
-fn agree(t: Tally, block: usize, name: &[u8], ours: &[u16], other: &[u16]) -> bool {
-    let k = first(ours, other);
-    let same = (k == ours.len()) & (k == other.len());
-    if !same {
-        tell(t, block, name, k, at(ours, k), at(other, k));
+impl fmt::Display for Tally {
+    fn fmt<W: fmt::Write>(&self, f: &mut fmt::Formatter<W>) -> fmt::Result {
+        writeln!(f, "blocks beside the second analyser {}", self.blocks)?;
+        writeln!(f, "  window tables that agree {}", self.windows)?;
+        writeln!(f, "  result records that agree {}", self.results)?;
+        writeln!(f, "plays beside the second player {}", self.plays)?;
+        writeln!(f, "  tables and lengths that agree {}", self.agreed)?;
+        writeln!(f, "  inside their windows {}", self.inside)?;
+        writeln!(f, "  ended by the bound {}", self.bounded)?;
+        writeln!(f, "differences {}", self.differ)
     }
-    same
-}
-
-fn agree_windows(t: Tally, block: usize, ours: &[u16; 1800], other: &[u16; 1800]) -> bool {
-    agree(t, block, b", window number ", ours, other)
-}
-
-fn agree_plays(t: Tally, block: usize, ours: &[u16; 900], other: &[u16; 900]) -> bool {
-    agree(t, block, b", play number ", ours, other)
-}
-
-// The length of a play, by the number of its list.
-fn agree_lengths(t: Tally, block: usize, way: usize, ours: usize, other: usize) -> bool {
-    if ours != other {
-        tell(t, block, b", length of play ", way, ours, other);
-    }
-    ours == other
-}
-
-// Whether ready, start and finish of each node are within their windows.
-fn inside(n: usize, windows: &[u16; 1800], played: &[u16; 900]) -> bool {
-    let mut all = true;
-    for k in 0..900 {
-        let at = 6 * (k / 3) + k % 3;
-        let within = (windows[at] <= played[k]) & (played[k] <= windows[at + 3]);
-        all = all & (within | (n <= k / 15));
-    }
-    all
-}
-
-// The first 60 of a list.
-fn front(lat: [u8; 100]) -> [u8; 60] {
-    let mut s = [0u8; 60];
-    for i in 0..60 {
-        s[i] = lat[i];
-    }
-    s
-}
-
-// The tally with one play of block k. The bound is the last number of the windows.
-fn with_play(t: Tally, b: Block, k: usize, way: usize, x: u64, windows: &[u16; 1800]) -> Tally {
-    let lat = latencies(b, way, x);
-    let n = b.n as usize;
-    if 60 < n {
-        return t;
-    }
-    let mut ours = [43690u16; 900];
-    play::play(b, &lat[0..n], &mut ours);
-    let length = play::play_length(b, &lat[0..n]).cycles;
-    let mut other = [43690u16; 900];
-    let end = trial_second::play(b, &front(lat), &mut other);
-    let tables = agree_plays(t, k, &ours, &other);
-    let same = tables && agree_lengths(t, k, way, length as usize, end as usize);
-    let mut u = t;
-    u.plays = more_if(same, t.plays);
-    u.inside = more_if(inside(n, windows, &ours), t.inside);
-    u.bounded = more_if(length <= windows[(30 * n + 1799) % 1800], t.bounded);
-    u.differ = more_if(!same, t.differ);
-    u
-}
-
-// The tally with four plays: all lowest latencies, all highest, and two lists that are drawn.
-fn with_plays(t: Tally, b: Block, k: usize, x: u64, windows: &[u16; 1800]) -> Tally {
-    let mut u = t;
-    let mut y = x;
-    for way in 0..4usize {
-        u = with_play(u, b, k, way, y, windows);
-        y = next(next(y));
-    }
-    u
-}
-
-// The tally with block k: its window table, its result record and its plays.
-fn with_block(t: Tally, k: usize, x: u64) -> Tally {
-    let b = shaped(k, x);
-    let mut ours = [43690u16; 1800];
-    analysis::windows(b, &mut ours);
-    let mut other = [43690u16; 1800];
-    let c = trial_second::windows(b, &mut other);
-    let mut s = [170u8; 512];
-    analysis::analyse(b, &mut s);
-    let tables = agree_windows(t, k, &ours, &other);
-    let mut u = t;
-    u.windows = more_if(tables, t.windows);
-    u.differ = more_if(!tables, t.differ);
-    let words = words_of(&s);
-    let made = result_of(b, &other, c);
-    let results = agree(u, k, b", result word ", &words, &made);
-    u.results = more_if(results, u.results);
-    u.differ = more_if(!results, u.differ);
-    with_plays(u, b, k, x, &ours)
 }
 
 pub fn run() {
-    let mut x: u64 = 15;
-    let mut t = Tally {
-        results: 0,
-        windows: 0,
-        plays: 0,
-        inside: 0,
-        bounded: 0,
-        differ: 0,
-    };
-    for k in 0..3600usize {
-        t = with_block(t, k, x);
-        x = next(x);
+    let mut seed = Seed(15);
+    let mut tally = Tally::default();
+    for k in 0..3600 {
+        tally.block(k, seed);
+        seed = seed.next();
     }
-    count(b"blocks beside the second analyser", 3600);
-    count(b"  window tables that agree", t.windows);
-    count(b"  result records that agree", t.results);
-    count(b"plays beside the second player", 14400);
-    count(b"  tables and lengths that agree", t.plays);
-    count(b"  inside their windows", t.inside);
-    count(b"  ended by the bound", t.bounded);
-    count(b"differences", t.differ);
+    print(tally);
 }

@@ -1,5 +1,4 @@
 // Blocks by hand: no registers read or written unless said, Q 4, W 8, widths 1, classroom block 1.
-use crate::made::no_entry;
 use record::{Block, Entry};
 
 pub fn entry(kind: u8, lo: u8, hi: u8, writes: u8, reads: u8) -> Entry {
@@ -28,25 +27,21 @@ pub fn plain(n: u8, entries: [Entry; 60]) -> Block {
     }
 }
 
-// A block of up to four instructions: the entries from n on are given all zero.
-pub fn four(n: u8, a: Entry, b: Entry, c: Entry, d: Entry) -> Block {
-    let mut entries = [no_entry(); 60];
-    entries[0] = a;
-    entries[1] = b;
-    entries[2] = c;
-    entries[3] = d;
-    plain(n, entries)
-}
-
-pub fn two(a: Entry, b: Entry) -> Block {
-    four(2, a, b, no_entry(), no_entry())
+// A block of these instructions, at most 60.
+pub fn block_of(instructions: &[Entry]) -> Block {
+    let mut entries = [Entry::default(); 60];
+    for (entry, instruction) in entries.iter_mut().zip(instructions) {
+        *entry = *instruction;
+    }
+    plain(instructions.len().min(60) as u8, entries)
 }
 
 // Block E of those worked by hand.
 pub fn block_e() -> Block {
-    let e1 = entry(0, 1, 4, 1, 255);
-    let e2 = entry(1, 4, 4, 255, 1);
-    let e3 = entry(1, 4, 4, 2, 255);
-    let e4 = entry(2, 12, 12, 255, 2);
-    four(4, e1, e2, e3, e4)
+    block_of(&[
+        entry(0, 1, 4, 1, 255),
+        entry(1, 4, 4, 255, 1),
+        entry(1, 4, 4, 2, 255),
+        entry(2, 12, 12, 255, 2),
+    ])
 }

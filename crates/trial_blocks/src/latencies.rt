@@ -1,28 +1,33 @@
 // Lists of latencies.
-use crate::crowded::up_to;
-use crate::made::next;
+use crate::seed::Seed;
 use record::{Block, Entry};
 
-// A latency of an entry: way 0 takes the lowest, way 1 the highest, any other draws one from lo to hi.
-fn latency(e: Entry, way: usize, x: u64) -> u8 {
-    if way == 0 || e.hi < e.lo {
-        return e.lo;
+// Which latencies of its entries a block has: the lowest, the highest, or some drawn from between.
+#[derive(Clone, Copy)]
+pub enum Way {
+    Lowest,
+    Highest,
+    Drawn(Seed),
+}
+
+fn latency(e: &Entry, way: &mut Way) -> u8 {
+    match way {
+        Way::Lowest => e.lo,
+        Way::Highest => e.hi,
+        Way::Drawn(seed) => seed.between(e.lo, e.hi),
     }
-    if way == 1 {
-        return e.hi;
-    }
-    let y = e.lo as usize + up_to((e.hi - e.lo) as u64, x) as usize;
-    if y < e.hi as usize { y as u8 } else { e.hi }
 }
 
 // The latencies of a block, and zeros beyond them.
-pub fn latencies(b: Block, way: usize, x: u64) -> [u8; 100] {
-    let mut lat = [0u8; 100];
-    let mut y = x;
-    for i in 0..60 {
-        let e = b.entries[i];
-        lat[i] = latency(e, way, y);
-        y = next(y);
+pub fn latencies(b: &Block, mut way: Way) -> [u8; 100] {
+    let mut latencies = [0u8; 100];
+    for (x, e) in latencies.iter_mut().zip(&b.entries) {
+        *x = latency(e, &mut way);
     }
-    lat
+    latencies
+}
+
+// The latencies of a block's instructions alone.
+pub fn list_of<'a>(b: &Block, latencies: &'a [u8; 100]) -> &'a [u8] {
+    &latencies[..usize::from(b.n).min(100)]
 }

@@ -5,5 +5,6 @@ pub mod blocks;
 pub mod crowded;
 pub mod latencies;
 pub mod made;
+pub mod seed;
 pub mod show;
 pub mod sums;

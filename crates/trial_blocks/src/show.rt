@@ -1,61 +1,41 @@
 // Lines of output.
-use record::Answer;
+use record::Reason;
+use std::fmt;
+use std::fmt::{Display, Write};
 
-pub fn text(s: &[u8]) {
-    io::write_all(1, s);
-}
+// Where the programs print to: a failure to write is not told.
+#[derive(Drop)]
+struct Output;
 
-pub fn number(n: usize) {
-    io::print_decimal(1, n as u64);
-}
-
-// A number with what it is.
-pub fn named(name: &[u8], n: usize) {
-    text(name);
-    number(n);
-}
-
-// The number and the place that an answer means; 0 and 0 where it accepts.
-pub fn number_of(a: Answer) -> usize {
-    match a {
-        Answer::Accepted => 0,
-        Answer::Refused(r) => record::number_of(r) as usize,
+impl Write for Output {
+    fn write_str(&mut self, s: &str) -> fmt::Result {
+        io::write_all(1, s.as_bytes());
+        Ok(())
     }
 }
 
-pub fn place_of(a: Answer) -> usize {
-    match a {
-        Answer::Accepted => 0,
-        Answer::Refused(r) => record::place_of(r),
-    }
-}
-
-pub fn answer(a: Answer) {
-    match a {
-        Answer::Accepted => text(b" accepted"),
-        Answer::Refused(_) => {
-            text(b" refused ");
-            number(number_of(a));
-            text(b" at ");
-            number(place_of(a));
-        }
-    }
+pub fn print(what: impl Display + Drop) {
+    let _ = write!(Output, "{what}");
 }
 
 // A name and a count, a line of their own.
-pub fn count(name: &[u8], n: usize) {
-    text(name);
-    text(b" ");
-    number(n);
-    text(b"\n");
+pub fn count(name: &str, n: usize) {
+    print(format_args!("{name} {n}\n"));
 }
 
-// One more, for counts that stay small.
-pub fn more(n: usize) -> usize {
-    if n < 1000000000 { n + 1 } else { n }
-}
+// What an operation answered.
+#[derive(Clone, Copy)]
+pub struct Answered(pub Result<(), Reason>);
 
-// One more where the test holds.
-pub fn more_if(test: bool, n: usize) -> usize {
-    if test { more(n) } else { n }
+impl Display for Answered {
+    fn fmt<W: Write>(&self, f: &mut fmt::Formatter<W>) -> fmt::Result {
+        match self.0 {
+            Ok(()) => f.write_str(" accepted"),
+            Err(reason) => {
+                let number = record::number_of(reason);
+                let place = record::place_of(reason);
+                write!(f, " refused {number} at {place}")
+            }
+        }
+    }
 }

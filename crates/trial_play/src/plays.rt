@@ -1,68 +1,58 @@
 // Plays: the table and the length, and the same play cycle by cycle.
-use crate::steps::{same_starts, steps, walk};
-use play::PlayState;
+use crate::steps::{answer_of, same_starts, steps, walk};
+use play::{PlayState, play, play_length};
 use record::Block;
 use trial_blocks::blocks::block_e;
 use trial_blocks::crowded::crowded;
-use trial_blocks::latencies::latencies;
-use trial_blocks::made::next;
-use trial_blocks::show::{answer, count, more, more_if, named, text};
-use trial_blocks::sums::{sum_numbers, summed, wide};
+use trial_blocks::latencies::{Way, latencies, list_of};
+use trial_blocks::seed::Seed;
+use trial_blocks::show::{count, print};
+use trial_blocks::sums::{FILLED, sum_numbers, summed};
 
-// The play table of a block, and 43690 beyond it.
-fn table(b: Block, lat: &[u8]) -> [u16; 900] {
-    let mut s = [43690u16; 900];
-    play::play(b, lat, &mut s);
+// The play table of a block, as it was filled in beyond it.
+fn table(b: Block, latencies: &[u8]) -> [u16; 900] {
+    let mut s = [FILLED; 900];
+    let _ = play(b, latencies, &mut s);
     s
+}
+
+fn starts(same: bool) -> &'static str {
+    if same { "same starts" } else { "other starts" }
 }
 
 // Block E with x for its first latency.
 fn first_of_e(x: u8) {
     let b = block_e();
-    let lat = [x, 4, 4, 12];
-    let t = table(b, &lat);
-    let l = play::play_length(b, &lat);
-    let w = walk(PlayState::first(), b, &lat, 30780, 0);
-    let state = w.state;
-    named(b"E, first latency ", x as usize);
-    named(b"  length ", l.cycles as usize);
-    named(b" by table ", wide(t[59]) as usize);
-    named(b" by steps ", w.cycles);
-    if same_starts(state, &t) {
-        text(b", same starts\n");
-    } else {
-        text(b", other starts\n");
-    }
+    let latencies = [x, 4, 4, 12];
+    let t = table(b, &latencies);
+    let length = play_length(b, &latencies).unwrap_or(0);
+    let w = walk(PlayState::first(), b, &latencies, 30780, 0);
+    let (last, cycles) = (t[59], w.cycles);
+    let starts = starts(same_starts(&w.state, &t));
+    print(format_args!("E, first latency {x}  length {length} by table {last}"));
+    print(format_args!(" by steps {cycles}, {starts}\n"));
 }
 
 // All the cycles that a play may have, 513 for each instruction, and one more.
-fn to_the_end(name: &[u8], b: Block, lat: &[u8]) {
-    let n = b.n as usize;
-    let t = table(b, lat);
-    let s = steps(PlayState::first(), b, lat, 513 * n);
-    let state = s.state;
-    named(name, 513 * n);
-    named(b" cycles, accepted ", s.accepted);
-    if same_starts(state, &t) {
-        text(b", same starts; the next");
-    } else {
-        text(b", other starts; the next");
-    }
-    let step = state.cycle(b, lat);
-    let last = step.answer;
-    answer(last);
-    text(b"\n");
+fn to_the_end(name: &str, b: Block, latencies: &[u8]) {
+    let cycles = 513 * usize::from(b.n);
+    let t = table(b, latencies);
+    let s = steps(PlayState::first(), b, latencies, cycles);
+    let accepted = s.accepted;
+    let starts = starts(same_starts(&s.state, &t));
+    let next = answer_of(s.state.cycle(b, latencies));
+    print(format_args!("{name}, {cycles} cycles, accepted {accepted}, {starts}; the next{next}\n"));
 }
 
 fn ends() {
-    to_the_end(b"E, ", block_e(), &[1, 4, 4, 12]);
-    let full = crowded(60, 9);
-    let lat = latencies(full, 2, 9);
-    to_the_end(b"60 instructions, ", full, &lat[0..60]);
+    to_the_end("E", block_e(), &[1, 4, 4, 12]);
+    let full = crowded(60, Seed(9));
+    let latencies = latencies(&full, Way::Drawn(Seed(9)));
+    to_the_end("60 instructions", full, list_of(&full, &latencies));
 }
 
 // Sums over tables and lengths and over states, how many plays were stepped through, how many came to the same starts.
-#[derive(Clone, Copy)]
+#[derive(Clone, Copy, Default)]
 struct Totals {
     plays: u64,
     states: u64,
@@ -70,48 +60,45 @@ struct Totals {
     same: usize,
 }
 
-// The totals with the play of a block under drawn latencies. Where it is asked for, a short one is stepped through too.
-fn played(t: Totals, b: Block, x: u64, step: bool) -> Totals {
-    let lat = latencies(b, 2, x);
-    let n = b.n as usize;
-    if 100 < n {
-        return t;
+impl Totals {
+    // Takes in the play of a block. Where it is asked for, a short one is stepped through too.
+    fn take_in(&mut self, b: Block, latencies: &[u8], step: bool) {
+        let t = table(b, latencies);
+        let length = play_length(b, latencies).unwrap_or(0);
+        self.plays = summed(sum_numbers(self.plays, &t), length);
+        if step && length < 300 {
+            let w = walk(PlayState::first(), b, latencies, 300, self.states);
+            self.states = w.sum;
+            self.stepped = self.stepped.saturating_add(1);
+            if same_starts(&w.state, &t) {
+                self.same = self.same.saturating_add(1);
+            }
+        }
     }
-    let s = table(b, &lat[0..n]);
-    let l = play::play_length(b, &lat[0..n]);
-    let mut u = t;
-    u.plays = summed(sum_numbers(t.plays, &s), l.cycles);
-    if step && l.cycles < 300 {
-        let w = walk(PlayState::first(), b, &lat[0..n], 300, t.states);
-        let state = w.state;
-        u.states = w.sum;
-        u.stepped = more(t.stepped);
-        u.same = more_if(same_starts(state, &s), t.same);
+}
+
+// Crowded blocks of every size under drawn latencies.
+fn crowded_totals() -> Totals {
+    let mut seed = Seed(9);
+    let mut totals = Totals::default();
+    for k in 0..300usize {
+        let b = crowded((1 + k % 60) as u8, seed);
+        seed = seed.next();
+        let latencies = latencies(&b, Way::Drawn(seed));
+        totals.take_in(b, list_of(&b, &latencies), k % 3 == 0);
     }
-    u
+    totals
 }
 
 pub fn run() {
-    first_of_e(1);
-    first_of_e(2);
-    first_of_e(3);
-    first_of_e(4);
-    ends();
-    let mut x: u64 = 9;
-    let mut t = Totals {
-        plays: 0,
-        states: 0,
-        stepped: 0,
-        same: 0,
-    };
-    for k in 0..300usize {
-        let b = crowded((1 + k % 60) as u8, x);
-        x = next(x);
-        t = played(t, b, x, k % 3 == 0);
+    for x in 1..5 {
+        first_of_e(x);
     }
-    count(b"plays of crowded blocks", 300);
-    count(b"  sum over play tables and lengths", t.plays as usize);
-    count(b"  short ones stepped through", t.stepped);
-    count(b"  to the same starts", t.same);
-    count(b"  sum over their states", t.states as usize);
+    ends();
+    let t = crowded_totals();
+    count("plays of crowded blocks", 300);
+    count("  sum over play tables and lengths", t.plays as usize);
+    count("  short ones stepped through", t.stepped);
+    count("  to the same starts", t.same);
+    count("  sum over their states", t.states as usize);
 }

@@ -1,79 +1,79 @@
 // Every single-byte change of a good record, as it stands and with the check made right again.
-use crate::judge::{opinion_of, record_of, sealed_if};
+ghost use Rattle.std.specs.Prelude.{◌<◌};
+
+use crate::judge::{agrees, opinion_of, record_of, sealed};
+use reader::read;
+use record::number_of;
+use std::fmt;
 use trial_blocks::made::block;
-use trial_blocks::show::{count, more, more_if, number_of, place_of};
+use trial_blocks::seed::Seed;
+use trial_blocks::show::{count, print};
 
-// How many records were given each number, and how many answers differ from the second opinion.
-#[derive(Clone, Copy)]
+// How many records were accepted, how many were refused by each number, and how many answers differ from the second
+// opinion.
+#[derive(Clone, Copy, Default)]
 pub struct Tally {
-    pub given: [usize; 10],
-    pub differ: usize,
+    accepted: usize,
+    refused: [usize; 10],
+    differ: usize,
 }
 
-pub fn none() -> Tally {
-    let given = [0usize; 10];
-    Tally { given, differ: 0 }
-}
-
-// The tally with one record more.
-pub fn judged(t: Tally, s: &[u8; 512]) -> Tally {
-    let r = reader::read(s);
-    let a = r.answer;
-    let n = number_of(a);
-    let o = opinion_of(s);
-    let same = (n == o.number) & (place_of(a) == o.place);
-    let mut u = t;
-    if n < 10 {
-        u.given[n] = more(u.given[n]);
+impl Tally {
+    // Counts one record more.
+    pub fn judge(&mut self, s: &[u8; 512]) {
+        let answer = read(s).map(|_| ());
+        match answer {
+            Ok(()) => self.accepted = self.accepted.saturating_add(1),
+            Err(reason) => {
+                let number = usize::from(number_of(reason));
+                if number < 10 {
+                    self.refused[number] = self.refused[number].saturating_add(1);
+                }
+            }
+        }
+        if !agrees(answer, opinion_of(s)) {
+            self.differ = self.differ.saturating_add(1);
+        }
     }
-    u.differ = more_if(!same, u.differ);
-    u
 }
 
-pub fn print(t: Tally) {
-    count(b"  accepted", t.given[0]);
-    count(b"  refused 2", t.given[2]);
-    count(b"  refused 3", t.given[3]);
-    count(b"  refused 4", t.given[4]);
-    count(b"  refused 5", t.given[5]);
-    count(b"  differ from the second opinion", t.differ);
+impl fmt::Display for Tally {
+    fn fmt<W: fmt::Write>(&self, f: &mut fmt::Formatter<W>) -> fmt::Result {
+        writeln!(f, "  accepted {}", self.accepted)?;
+        for number in 2..6 {
+            writeln!(f, "  refused {} {}", number, self.refused[number])?;
+        }
+        writeln!(f, "  differ from the second opinion {}", self.differ)
+    }
 }
 
-// Byte k changed to v.
-fn changed(t: Tally, s: [u8; 512], k: usize, v: u8, seal: bool) -> Tally {
-    if 511 < k {
-        return t;
+// All 255 other values of byte k, with the check as it stands or made right again.
+fn change(tally: &mut Tally, s: &[u8; 512], k: usize, seal: bool)
+    requires { k < 512 }
+{
+    for v in 0..=255u8 {
+        if v != s[k] {
+            let mut changed = *s;
+            changed[k] = v;
+            tally.judge(&if seal { sealed(changed) } else { changed });
+        }
     }
-    if v == s[k] {
-        return t;
-    }
-    let mut c = s;
-    c[k] = v;
-    let d = sealed_if(seal, c);
-    judged(t, &d)
 }
 
-// All 255 other values of byte k.
-fn values(t: Tally, s: [u8; 512], k: usize, seal: bool) -> Tally {
-    let mut u = t;
-    for v in 0..256usize {
-        u = changed(u, s, k, v as u8, seal);
+// The changes of all bytes, but for those of the check where it is made right again.
+fn tally_of(s: &[u8; 512], seal: bool) -> Tally {
+    let mut tally = Tally::default();
+    for k in 0..if seal { 508 } else { 512 } {
+        change(&mut tally, s, k, seal);
     }
-    u
-}
-
-fn all(s: [u8; 512], end: usize, seal: bool) -> Tally {
-    let mut t = none();
-    for k in 0..end {
-        t = values(t, s, k, seal);
-    }
-    t
+    tally
 }
 
 pub fn run() {
-    let s = record_of(block(300000));
-    count(b"single-byte changes of a record, n", s[4] as usize);
-    print(all(s, 512, false));
-    count(b"the same with the check made right, n", s[4] as usize);
-    print(all(s, 508, true));
+    let s = record_of(block(Seed(300000)));
+    let n = usize::from(s[4]);
+    count("single-byte changes of a record, n", n);
+    print(tally_of(&s, false));
+    count("the same with the check made right, n", n);
+    print(tally_of(&s, true));
 }

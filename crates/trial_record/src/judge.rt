@@ -1,77 +1,72 @@
 // A second opinion on records, by another road: from the last byte back to the first, so that the first fault stays.
-use record::{Block, Entry};
-use trial_blocks::sums::of_byte;
+use record::{Block, Reason, number_of, place_of};
 
+// What is wrong with a record: of a header the first byte at fault, of entries the first one.
 #[derive(Clone, Copy)]
-pub struct Opinion {
-    pub number: usize,
-    pub place: usize,
+pub enum Fault {
+    Check,
+    Letters,
+    Header(usize),
+    Entry(usize),
+}
+
+impl Fault {
+    // The number and the place that a refusal is to have.
+    fn number_and_place(self) -> (u8, usize) {
+        match self {
+            Fault::Check => (2, 0),
+            Fault::Letters => (3, 0),
+            Fault::Header(k) => (4, k),
+            Fault::Entry(i) => (5, i),
+        }
+    }
+}
+
+// Whether an answer says the same as the second opinion.
+pub fn agrees(answer: Result<(), Reason>, opinion: Option<Fault>) -> bool {
+    let refused = answer
+        .err()
+        .map(|reason| (number_of(reason), place_of(reason)));
+    refused == opinion.map(|fault| fault.number_and_place())
 }
 
 // The check with the sums reduced at the end: 4294836225 is 65535 times 65535, and keeps them small till then.
-fn check(s: &[u8; 512]) -> u64 {
+fn check(s: &[u8; 512]) -> u32 {
     let mut a: u64 = 0;
     let mut b: u64 = 0;
-    for k in 0..254 {
-        let word = of_byte(s[2 * k]) + 256 * of_byte(s[2 * k + 1]);
-        a = (a + word) % 4294836225;
+    for word in s[..508].as_chunks::<2>().0 {
+        a = (a + u64::from(u16::from_le_bytes(*word))) % 4294836225;
         b = (b + a) % 4294836225;
     }
-    b % 65535 * 65536 + a % 65535
+    (b % 65535 * 65536 + a % 65535) as u32
 }
 
-// The check that the last four bytes hold.
-fn held(s: &[u8; 512]) -> u64 {
-    of_byte(s[508]) + 256 * of_byte(s[509]) + 65536 * of_byte(s[510]) + 16777216 * of_byte(s[511])
-}
-
-// Puts the right check into the last four bytes.
-fn sealed(s: [u8; 512]) -> [u8; 512] {
+// The record with the right check in its last four bytes.
+pub fn sealed(s: [u8; 512]) -> [u8; 512] {
     let mut t = s;
-    let k = check(&t);
-    t[508] = (k % 256) as u8;
-    t[509] = (k / 256 % 256) as u8;
-    t[510] = (k / 65536 % 256) as u8;
-    t[511] = (k / 16777216 % 256) as u8;
+    t[508..].copy_from_slice(&check(&s).to_le_bytes());
     t
-}
-
-pub fn sealed_if(test: bool, s: [u8; 512]) -> [u8; 512] {
-    if test { sealed(s) } else { s }
 }
 
 fn none_or_below(r: u8) -> bool {
     r == 255 || r < 64
 }
 
-// The rule of entry i, a byte at a time.
-fn entry_bad(s: &[u8; 512], i: usize) -> bool {
-    if 59 < i {
-        return false;
+// Whether an entry breaks its rule.
+fn entry_bad(entry: &[u8; 8], used: bool) -> bool {
+    if !used {
+        return *entry != [0; 8];
     }
-    let at = 28 + 8 * i;
-    if of_byte(s[4]) <= i as u64 {
-        let low = of_byte(s[at]) + of_byte(s[at + 1]) + of_byte(s[at + 2]) + of_byte(s[at + 3]);
-        let high = of_byte(s[at + 4])
-            + of_byte(s[at + 5])
-            + of_byte(s[at + 6])
-            + of_byte(s[at + 7]);
-        return low + high != 0;
-    }
-    if 3 < s[at] || s[at + 1] == 0 || s[at + 2] < s[at + 1] {
+    let [kind, lo, hi, writes, reads1, reads2, zero1, zero2] = *entry;
+    if 3 < kind || lo == 0 || hi < lo {
         return true;
     }
-    let registers = none_or_below(s[at + 3])
-        && none_or_below(s[at + 4])
-        && none_or_below(s[at + 5]);
-    !registers || s[at + 6] != 0 || s[at + 7] != 0
+    let registers = none_or_below(writes) && none_or_below(reads1) && none_or_below(reads2);
+    !registers || zero1 != 0 || zero2 != 0
 }
 
-fn header_bad(s: &[u8; 512], k: usize) -> bool {
-    if 27 < k {
-        return false;
-    }
-    let x = s[k];
+// Whether byte k of the header breaks its rule.
+fn header_bad(k: usize, x: u8) -> bool {
     match k {
         4 => x == 0 || 60 < x,
         5 => x == 0 || 16 < x,
@@ -83,88 +78,50 @@ fn header_bad(s: &[u8; 512], k: usize) -> bool {
     }
 }
 
-// The opinion, or another where the test holds.
-fn unless(test: bool, number: usize, place: usize, o: Opinion) -> Opinion {
-    if test { Opinion { number, place } } else { o }
-}
-
-fn of_entries(s: &[u8; 512]) -> Opinion {
-    let mut o = Opinion {
-        number: 0,
-        place: 0,
-    };
-    for k in 0..60 {
-        let i = 59 - k;
-        o = unless(entry_bad(s, i), 5, i, o);
+// The first entry at fault.
+fn of_entries(s: &[u8; 512]) -> Option<Fault> {
+    let mut fault = None;
+    for (i, entry) in s[28..508].as_chunks::<8>().0.iter().enumerate().rev() {
+        if entry_bad(entry, i < usize::from(s[4])) {
+            fault = Some(Fault::Entry(i));
+        }
     }
-    o
+    fault
 }
 
-fn of_header(s: &[u8; 512], below: Opinion) -> Opinion {
-    let mut o = below;
-    for j in 0..24 {
-        let k = 27 - j;
-        o = unless(header_bad(s, k), 4, k, o);
+// The first byte of the header at fault.
+fn of_header(s: &[u8; 512]) -> Option<usize> {
+    let mut fault = None;
+    for k in (4..28).rev() {
+        if header_bad(k, s[k]) {
+            fault = Some(k);
+        }
     }
-    o
+    fault
 }
 
-pub fn opinion_of(s: &[u8; 512]) -> Opinion {
-    let o = of_header(s, of_entries(s));
-    let first = s[0] == b'B' && s[1] == b'L';
-    let last = s[2] == b'K' && s[3] == b'1';
-    let letters = unless(!first || !last, 3, 0, o);
-    unless(check(s) != held(s), 2, 0, letters)
-}
-
-fn entry_byte(e: Entry, k: usize) -> u8 {
-    match k {
-        0 => e.kind,
-        1 => e.lo,
-        2 => e.hi,
-        3 => e.writes,
-        4 => e.reads1,
-        5 => e.reads2,
-        _ => 0,
+pub fn opinion_of(s: &[u8; 512]) -> Option<Fault> {
+    let mut fault = of_entries(s);
+    if let Some(k) = of_header(s) {
+        fault = Some(Fault::Header(k));
     }
-}
-
-fn header_byte(b: Block, k: usize) -> u8 {
-    let x = b.number;
-    match k {
-        0 => b'B',
-        1 => b'L',
-        2 => b'K',
-        3 => b'1',
-        4 => b.n,
-        5 => b.q,
-        6 => b.w,
-        7 => b.f,
-        8 => b.d,
-        9 => b.c,
-        10 => b.origin,
-        12 => (x % 256) as u8,
-        13 => (x / 256 % 256) as u8,
-        14 => (x / 65536 % 256) as u8,
-        15 => (x / 16777216) as u8,
-        _ => 0,
+    if s[..4] != b"BLK1"[..] {
+        fault = Some(Fault::Letters);
     }
-}
-
-fn with_header(b: Block) -> [u8; 512] {
-    let mut s = [0u8; 512];
-    for k in 0..28 {
-        s[k] = header_byte(b, k);
+    if check(s).to_le_bytes()[..] != s[508..] {
+        fault = Some(Fault::Check);
     }
-    s
+    fault
 }
 
 // The bytes of a block, faults and all, with the right check.
 pub fn record_of(b: Block) -> [u8; 512] {
-    let mut s = with_header(b);
-    for j in 28..508 {
-        let e = b.entries[(j - 28) / 8];
-        s[j] = entry_byte(e, (j - 28) % 8);
+    let mut s = [0u8; 512];
+    s[..4].copy_from_slice(b"BLK1");
+    s[4..11].copy_from_slice(&[b.n, b.q, b.w, b.f, b.d, b.c, b.origin]);
+    s[12..16].copy_from_slice(&b.number.to_le_bytes());
+    for (bytes, e) in s[28..508].as_chunks_mut::<8>().0.iter_mut().zip(&b.entries) {
+        *bytes = [e.kind, e.lo, e.hi, e.writes, e.reads1, e.reads2, 0, 0];
     }
     sealed(s)
 }

@@ -1,9 +1,10 @@
 // The worked vectors: each through the writer, and its bytes with the right check through the reader.
-use crate::judge::{record_of, sealed_if};
+use crate::judge::{record_of, sealed};
+use reader::read;
 use record::{Block, Entry};
 use trial_blocks::blocks::plain;
-use trial_blocks::made::{no_entry, used};
-use trial_blocks::show::{answer, named, number, text};
+use trial_blocks::show::{Answered, print};
+use writer::write;
 
 fn entry(lo: u8, hi: u8, register: u8) -> Entry {
     Entry {
@@ -18,62 +19,73 @@ fn entry(lo: u8, hi: u8, register: u8) -> Entry {
 
 // A block of n entries, all of them e.
 fn block(n: u8, e: Entry) -> Block {
-    let mut entries = [no_entry(); 60];
-    for i in 0..60 {
-        entries[i] = used(i < n as usize, e);
+    let mut entries = [Entry::default(); 60];
+    for place in entries.iter_mut().take(usize::from(n)) {
+        *place = e;
     }
-    let mut b = plain(n, entries);
-    b.origin = 2;
-    b.number = 4000000007;
-    b
+    Block {
+        origin: 2,
+        number: 4000000007,
+        ..plain(n, entries)
+    }
 }
 
-fn read_line(s: &[u8]) {
-    let r = reader::read(s);
-    let a = r.answer;
-    text(b"  read");
-    answer(a);
-    text(b"\n");
+// What the reader answers.
+fn reading(s: &[u8]) -> Answered {
+    Answered(read(s).map(|_| ()))
 }
 
-fn both(name: &[u8], b: Block) {
-    text(name);
+fn both(name: &str, b: Block) {
     let mut out = [0u8; 512];
-    let a = writer::write(b, &mut out);
-    text(b"  write");
-    answer(a);
-    let s = record_of(b);
-    read_line(&s);
+    let written = Answered(write(b, &mut out));
+    print(format_args!("{name}  write{written}  read{}\n", reading(&record_of(b))));
 }
 
 // A block of two with its second entry e.
-fn second(name: &[u8], e: Entry) {
+fn second(name: &str, e: Entry) {
     let mut b = block(2, entry(1, 4, 63));
     b.entries[1] = e;
     both(name, b);
 }
 
 fn registers() {
-    let mut e = entry(1, 4, 63);
-    second(b"writes 63", e);
-    e.writes = 255;
-    second(b"writes 255", e);
-    e.writes = 64;
-    second(b"writes 64", e);
-    e.writes = 1;
-    e.reads1 = 64;
-    second(b"reads 64 first", e);
-    e.reads1 = 0;
-    e.reads2 = 254;
-    second(b"reads 254 second", e);
+    let e = entry(1, 4, 63);
+    second("writes 63", e);
+    second("writes 255", Entry { writes: 255, ..e });
+    second("writes 64", Entry { writes: 64, ..e });
+    second(
+        "reads 64 first",
+        Entry {
+            writes: 1,
+            reads1: 64,
+            ..e
+        },
+    );
+    second(
+        "reads 254 second",
+        Entry {
+            writes: 1,
+            reads1: 0,
+            reads2: 254,
+            ..e
+        },
+    );
 }
 
-fn damaged(name: &[u8], letter: u8, seal: bool) {
+// A record with another first letter.
+fn damaged() -> [u8; 512] {
     let mut s = record_of(block(2, entry(1, 4, 63)));
-    s[0] = letter;
-    let t = sealed_if(seal, s);
-    text(name);
-    read_line(&t);
+    s[0] = b'C';
+    s
+}
+
+fn letters() {
+    let wrong = damaged();
+    print(format_args!("wrong letters, wrong check  read{}\n", reading(&wrong)));
+    print(format_args!(
+        "wrong letters, right check  read{}\n",
+        reading(&sealed(wrong))
+    ));
 }
 
 fn zeros() -> [u8; 100000] {
@@ -82,47 +94,36 @@ fn zeros() -> [u8; 100000] {
 
 // The first n bytes read.
 fn front(s: &[u8], n: usize) {
-    if n <= s.len() {
-        number(n);
-        text(b" bytes");
-        read_line(&s[0..n]);
+    if let Some(front) = s.get(..n) {
+        print(format_args!("{n} bytes  read{}\n", reading(front)));
     }
 }
 
 // A block written to the first n bytes.
 fn output(s: &mut [u8], n: usize) {
-    if n <= s.len() {
-        let a = writer::write(block(2, entry(1, 4, 63)), &mut s[0..n]);
-        named(b"output of ", n);
-        text(b" bytes  write");
-        answer(a);
-        text(b"\n");
+    if let Some(front) = s.get_mut(..n) {
+        let written = Answered(write(block(2, entry(1, 4, 63)), front));
+        print(format_args!("output of {n} bytes  write{written}\n"));
     }
 }
 
 fn lengths() {
     let mut long = zeros();
-    front(&long, 0);
-    front(&long, 1);
-    front(&long, 511);
-    front(&long, 512);
-    front(&long, 513);
-    front(&long, 100000);
-    output(&mut long, 0);
-    output(&mut long, 511);
-    output(&mut long, 512);
-    output(&mut long, 513);
-    output(&mut long, 100000);
+    for n in [0, 1, 511, 512, 513, 100000] {
+        front(&long, n);
+    }
+    for n in [0, 511, 512, 513, 100000] {
+        output(&mut long, n);
+    }
 }
 
 pub fn run() {
-    both(b"n 0", block(0, no_entry()));
-    both(b"n 61", block(61, entry(1, 4, 63)));
-    both(b"n 60", block(60, entry(1, 4, 63)));
-    second(b"lo 0", entry(0, 4, 63));
-    second(b"lo above hi", entry(5, 4, 63));
+    both("n 0", block(0, Entry::default()));
+    both("n 61", block(61, entry(1, 4, 63)));
+    both("n 60", block(60, entry(1, 4, 63)));
+    second("lo 0", entry(0, 4, 63));
+    second("lo above hi", entry(5, 4, 63));
     registers();
-    damaged(b"wrong letters, wrong check", b'C', false);
-    damaged(b"wrong letters, right check", b'C', true);
+    letters();
     lengths();
 }

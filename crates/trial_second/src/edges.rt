@@ -1,134 +1,133 @@
-// The list of edges: 14 places for each instruction, of which those not used hold 0. An edge is one number: its first
-// node, its second times 512, its sort times 262144.
-use crate::sheet::{READS1, READS2, WRITES, column, count_of};
-use record::Block;
+// The edges of a block.
+ghost use Rattle.std.specs.Prelude.{◌<◌, ◌≤◌};
 
-// The sort of an order edge, which is also the table of the time that it carries, START.
-pub const STARTED: u32 = 1;
+use crate::blocks::count_of;
+use crate::nodes::{Node, Stage};
+use record::{Block, Entry};
 
-// The sort of a finish edge, which is also the table of the time that it carries, FINISH.
-pub const FINISHED: u32 = 2;
-
-const IF: usize = 0;
-
-const ID: usize = 1;
-
-pub const EX: usize = 2;
-
-const WB: usize = 3;
-
-const CM: usize = 4;
-
-pub fn from_of(e: u32) -> usize {
-    (e % 512) as usize
+// Which time of its first node an edge carries to its second: the start, for one that keeps the order of the program,
+// or the finish.
+#[derive(Clone, Copy, PartialEq, Eq)]
+pub enum Sort {
+    Start,
+    Finish,
 }
 
-pub fn to_of(e: u32) -> usize {
-    (e / 512 % 512) as usize
+#[derive(Clone, Copy)]
+pub struct Edge {
+    pub sort: Sort,
+    pub from: Node,
+    pub to: Node,
 }
 
-pub fn sort_of(e: u32) -> u32 {
-    e / 262144
-}
-
-fn node(i: usize, stage: usize) -> u32 {
-    (i % 60 * 5 + stage % 5) as u32
-}
-
-fn edge(sort: u32, from: u32, to: u32) -> u32 {
-    sort % 3 * 262144 + to % 512 * 512 + from % 512
-}
-
-fn put(edges: &mut [u32; 840], i: usize, place: usize, e: u32) {
-    if 59 < i {
-        return;
-    }
-    if place < 14 {
-        edges[14 * i + place] = e;
-    }
-}
+// 14 places for each instruction, of which some stay empty.
+pub type Edges = [Option<Edge>; 840];
 
 // A family: for each i, the edge from a stage of i to a stage of i + step, if that is in the block.
-fn family(
-    edges: &mut [u32; 840],
-    n: usize,
-    place: usize,
-    sort: u32,
-    from: usize,
-    to: usize,
+#[derive(Clone, Copy)]
+struct Family {
+    sort: Sort,
+    from: Stage,
+    to: Stage,
     step: u8,
-) {
-    let far = step as usize;
-    for i in 0..60 {
-        if i + far < n {
-            put(
-                edges,
-                i,
-                place,
-                edge(sort, node(i, from), node(i + far, to)),
-            );
-        }
+}
+
+// What an entry's `writes` is where it writes no register.
+const NO_REGISTER: u8 = 255;
+
+fn start(stage: Stage) -> Family {
+    Family {
+        sort: Sort::Start,
+        from: stage,
+        to: stage,
+        step: 1,
+    }
+}
+
+fn finish(from: Stage, to: Stage, step: u8) -> Family {
+    Family {
+        sort: Sort::Finish,
+        from,
+        to,
+        step,
+    }
+}
+
+fn families(b: &Block) -> [Family; 12] {
+    [
+        finish(Stage::If, Stage::Id, 0),
+        finish(Stage::Id, Stage::Ex, 0),
+        finish(Stage::Ex, Stage::Wb, 0),
+        finish(Stage::Wb, Stage::Cm, 0),
+        finish(Stage::Id, Stage::If, b.q),
+        finish(Stage::Cm, Stage::Id, b.w),
+        finish(Stage::If, Stage::If, b.f),
+        finish(Stage::Id, Stage::Id, b.d),
+        finish(Stage::Cm, Stage::Cm, b.c),
+        start(Stage::If),
+        start(Stage::Id),
+        start(Stage::Cm),
+    ]
+}
+
+// Lays a family, among n instructions, at one place of each.
+fn lay(edges: &mut Edges, n: usize, place: usize, family: Family)
+    requires count { n ≤ 60 }
+    requires place { place < 14 }
+{
+    let step = family.step as usize;
+    for j in step..n {
+        let i = j - step;
+        edges[14 * i + place] = Some(Edge {
+            sort: family.sort,
+            from: Node::new(i, family.from),
+            to: Node::new(j, family.to),
+        });
     }
 }
 
 // WB(i) to EX(j) for each j that reads what i writes, until another writes it.
-fn readers(
-    edges: &mut [u32; 840],
-    n: usize,
-    i: usize,
-    w: &[u8; 60],
-    r1: &[u8; 60],
-    r2: &[u8; 60],
-    r: u8,
-) {
-    for j in 0..60 {
-        if n <= j {
-            break;
+fn lay_readers(edges: &mut Edges, n: usize, i: usize, entries: &[Entry; 60])
+    requires count { n ≤ 60 }
+    requires writer { i < n }
+{
+    let r = entries[i].writes;
+    for j in i + 1..n {
+        let edge = Some(Edge {
+            sort: Sort::Finish,
+            from: Node::new(i, Stage::Wb),
+            to: Node::new(j, Stage::Ex),
+        });
+        let e = entries[j];
+        if e.reads1 == r {
+            edges[14 * j] = edge;
         }
-        if i < j {
-            let e = edge(FINISHED, node(i, WB), node(j, EX));
-            if r1[j] == r {
-                put(edges, j, 0, e);
-            }
-            if r2[j] == r {
-                put(edges, j, 1, e);
-            }
-            if w[j] == r {
-                break;
-            }
+        if e.reads2 == r {
+            edges[14 * j + 1] = edge;
+        }
+        if e.writes == r {
+            break;
         }
     }
 }
 
 // The edges of registers, writer by writer.
-fn registers(edges: &mut [u32; 840], n: usize, w: &[u8; 60], r1: &[u8; 60], r2: &[u8; 60]) {
-    for i in 0..60 {
-        let r = w[i];
-        if r != 255 {
-            readers(edges, n, i, w, r1, r2, r);
+fn lay_registers(edges: &mut Edges, b: &Block) {
+    let n = count_of(b);
+    for i in 0..n {
+        if b.entries[i].writes != NO_REGISTER {
+            lay_readers(edges, n, i, &b.entries);
         }
     }
 }
 
-// All edges of a block, family by family. Places 0 and 1 of an instruction are for the registers it reads.
-pub fn edges_of(b: Block) -> [u32; 840] {
+// All edges of a block. Places 0 and 1 of an instruction are for the registers it reads.
+pub fn edges_of(b: &Block) -> Edges {
     let n = count_of(b);
-    let mut s = [0u32; 840];
-    family(&mut s, n, 2, FINISHED, IF, ID, 0);
-    family(&mut s, n, 3, FINISHED, ID, EX, 0);
-    family(&mut s, n, 4, FINISHED, EX, WB, 0);
-    family(&mut s, n, 5, FINISHED, WB, CM, 0);
-    family(&mut s, n, 6, FINISHED, ID, IF, b.q);
-    family(&mut s, n, 7, FINISHED, CM, ID, b.w);
-    family(&mut s, n, 8, FINISHED, IF, IF, b.f);
-    family(&mut s, n, 9, FINISHED, ID, ID, b.d);
-    family(&mut s, n, 10, FINISHED, CM, CM, b.c);
-    let w = column(b, WRITES);
-    let r1 = column(b, READS1);
-    let r2 = column(b, READS2);
-    registers(&mut s, n, &w, &r1, &r2);
-    family(&mut s, n, 11, STARTED, IF, IF, 1);
-    family(&mut s, n, 12, STARTED, ID, ID, 1);
-    family(&mut s, n, 13, STARTED, CM, CM, 1);
-    s
+    let mut edges = [None; 840];
+    lay_registers(&mut edges, b);
+    for (k, family) in families(b).iter().enumerate() {
+        lay(&mut edges, n, k + 2, *family);
+    }
+    edges
 }

@@ -2,15 +2,18 @@
 // events in time order.
 #![tactic(auto)]
 
-mod closure;
+ghost use Rattle.std.specs.Prelude.{◌≤◌};
+
+mod blocks;
 mod edges;
 mod events;
-mod node_lists;
+mod nodes;
 mod pairs;
-mod sheet;
+mod paths;
 mod times;
 
 use record::Block;
+use times::Sheet;
 
 // What an analysis counts.
 #[derive(Clone, Copy)]
@@ -21,62 +24,60 @@ pub struct Counts {
     pub apart: u32,
 }
 
-// A number of a sheet as the tables hold it.
-fn short(m: &[u32; 2240], table: usize, v: usize) -> u16 {
-    (sheet::get(m, table, v) % 65536) as u16
-}
-
-// Number k of the window table.
-fn window(early: &[u32; 2240], late: &[u32; 2240], k: usize) -> u16 {
-    let place = k % 6;
-    if place < 3 {
-        short(early, place, k / 6)
-    } else {
-        short(late, place - 3, k / 6)
+fn write_windows(early: &Sheet, late: &Sheet, n: usize, out: &mut [u16; 1800])
+    requires { n ≤ 60 }
+{
+    let windows = out.as_chunks_mut::<6>().0.iter_mut();
+    for (window, (early, late)) in windows.zip(early.iter().zip(late)).take(5 * n) {
+        let [ready, start, finish] = early.numbers();
+        let [latest_ready, latest_start, latest_finish] = late.numbers();
+        *window = [
+            ready,
+            start,
+            finish,
+            latest_ready,
+            latest_start,
+            latest_finish,
+        ];
     }
 }
 
-fn write_windows(early: &[u32; 2240], late: &[u32; 2240], n: usize, out: &mut [u16; 1800]) {
-    for k in 0..1800 {
-        if n <= k / 30 {
-            break;
-        }
-        out[k] = window(early, late, k);
+fn write_play(sheet: &Sheet, n: usize, out: &mut [u16; 900])
+    requires { n ≤ 60 }
+{
+    let played = out.as_chunks_mut::<3>().0.iter_mut();
+    for (numbers, times) in played.zip(sheet).take(5 * n) {
+        *numbers = times.numbers();
     }
 }
 
-fn write_play(m: &[u32; 2240], n: usize, out: &mut [u16; 900]) {
-    for k in 0..900 {
-        if n <= k / 15 {
-            break;
-        }
-        out[k] = short(m, k % 3, k / 3);
-    }
+// The finish of the last commit.
+fn end(sheet: &Sheet, n: usize) -> u32
+    requires { n ≤ 60 }
+{
+    sheet[..5 * n].last().map_or(0, |times| times.finish)
 }
 
 // The window table: for each node, earliest ready, start, finish, then latest ready, start, finish.
 pub fn windows(b: Block, out: &mut [u16; 1800]) -> Counts {
-    let n = sheet::count_of(b);
-    let edges = edges::edges_of(b);
-    let early = times::earliest(b, &edges);
-    let mut late = [0u32; 2240];
-    let mut open = pairs::contending(b, &edges);
-    let pairs = pairs::size(&open);
-    let rounds = pairs::rounds(b, &edges, &early, &mut late, &mut open);
-    let apart = sheet::minus(pairs, pairs::size(&open));
-    write_windows(&early, &late, n, out);
+    let n = blocks::count_of(&b);
+    let edges = edges::edges_of(&b);
+    let early = times::earliest(&b, &edges);
+    let pairs = pairs::contending(&b, &edges);
+    let rounds = pairs::run_rounds(&b, &edges, &early, &pairs);
+    write_windows(&early, &rounds.late, n, out);
     Counts {
-        bound: sheet::end(&late, n),
-        rounds,
-        pairs,
-        apart,
+        bound: end(&rounds.late, n),
+        rounds: rounds.count,
+        pairs: pairs::size(&pairs),
+        apart: rounds.apart,
     }
 }
 
 // The play table: ready, start, finish for each node; gives back the finish of the last commit.
 pub fn play(b: Block, lat: &[u8; 60], out: &mut [u16; 900]) -> u32 {
-    let n = sheet::count_of(b);
-    let m = events::played(b, lat);
-    write_play(&m, n, out);
-    sheet::end(&m, n)
+    let n = blocks::count_of(&b);
+    let sheet = events::played(&b, lat);
+    write_play(&sheet, n, out);
+    end(&sheet, n)
 }

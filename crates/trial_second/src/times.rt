@@ -1,72 +1,100 @@
-// Times by relaxation: sweeps over the list of edges until one changes nothing. The sets in `open` hold, for each EX,
-// the earlier ones that it contends with and is not known to be apart from; where all are empty the rule for EX falls
-// away.
-use crate::closure::{first_of, without_first};
-use crate::edges::{EX, from_of, sort_of, to_of};
-use crate::sheet::{
-    FINISH, LO, READY, START, column, finish_of, get, index, larger, lay, plus, set,
-};
+// Times by relaxation: sweeps over the edges until one changes nothing.
+use crate::blocks::{column, latency_of, repeated};
+use crate::edges::{Edge, Edges, Sort};
+use crate::nodes::{Node, Stage};
+use crate::paths::Instructions;
 use record::Block;
+use std::array::from_fn;
 
-// The table of the sum of the highest latencies of earlier contenders, by instruction.
-pub const EARLIER: usize = 4;
+// When a node is ready, starts and finishes.
+#[derive(Clone, Copy, Default)]
+pub struct Times {
+    pub ready: u32,
+    pub start: u32,
+    pub finish: u32,
+}
 
-// The table of the largest highest latency of later contenders, less 1, by instruction.
-pub const LATER: usize = 5;
+// The times of every node.
+pub type Sheet = [Times; 300];
+
+// What the EX of an instruction may have to wait for: the sum of the highest latencies of the earlier ones that it
+// contends with, and the largest highest latency of the later ones, less 1.
+#[derive(Clone, Copy, Default)]
+pub struct Weight {
+    pub earlier: u32,
+    pub later: u32,
+}
+
+// What times rest on beside the edges: the latencies, and for each instruction the earlier ones that it contends with
+// and is not known to be apart from, and what they weigh. Where there are none the rule for EX falls away.
+#[derive(Drop)]
+pub struct Setting {
+    pub latencies: [u8; 60],
+    pub open: [Instructions; 60],
+    pub weights: [Weight; 60],
+}
+
+impl Times {
+    // The times as the tables hold them.
+    pub fn numbers(self) -> [u16; 3] {
+        [short(self.ready), short(self.start), short(self.finish)]
+    }
+}
+
+fn short(x: u32) -> u16 {
+    (x % 65536) as u16
+}
 
 // The largest finish among the EX of a set.
-fn largest_finish(m: &[u32; 2240], set: u64) -> u32 {
-    let mut x = set;
-    let mut r = 0;
-    for turn in 0..64usize {
-        if x == 0 {
-            break;
-        }
-        r = larger(r, get(m, FINISH, 5 * first_of(x) + EX));
-        x = without_first(x);
-    }
-    r
+fn largest_finish(sheet: &Sheet, set: &Instructions) -> u32 {
+    (0..60)
+        .filter(|i| set[*i])
+        .map(|i| sheet[Node::new(i, Stage::Ex).place()].finish)
+        .max()
+        .unwrap_or(0)
 }
 
-// When the EX of instruction i starts, being ready at a given time.
-fn ex_start(m: &[u32; 2240], i: usize, ready: u32, earlier: u64) -> u32 {
-    let b = plus(ready, get(m, LATER, i));
-    let all = plus(b, get(m, EARLIER, i));
-    let last = larger(b, largest_finish(m, earlier));
-    if all < last { all } else { last }
-}
-
-fn start_of(m: &[u32; 2240], open: &[u64; 60], v: usize, ready: u32) -> u32 {
-    let i = v / 5;
-    if 59 < i {
+// When a node starts, being ready at a given time.
+fn start_of(sheet: &Sheet, setting: &Setting, v: Node, ready: u32) -> u32 {
+    if !v.is_ex() {
         return ready;
     }
-    if v % 5 == 2 {
-        ex_start(m, i, ready, open[i])
-    } else {
-        ready
+    let i = v.instruction();
+    let weight = setting.weights[i];
+    let blocked = ready.saturating_add(weight.later);
+    let all = blocked.saturating_add(weight.earlier);
+    all.min(blocked.max(largest_finish(sheet, &setting.open[i])))
+}
+
+// The times of a node that is ready at a given time.
+fn times_from(sheet: &Sheet, setting: &Setting, v: Node, ready: u32) -> Times {
+    let start = start_of(sheet, setting, v, ready);
+    let latency = latency_of(&setting.latencies, v);
+    Times {
+        ready,
+        start,
+        finish: start.saturating_add(latency),
     }
 }
 
-// Carries the time of an edge's first node to its second; gives whether the second's times changed.
-fn relax(m: &mut [u32; 2240], open: &[u64; 60], e: u32) -> bool {
-    let v = to_of(e);
-    let old = get(m, FINISH, v);
-    let ready = larger(get(m, index(sort_of(e)), from_of(e)), get(m, READY, v));
-    let start = start_of(m, open, v, ready);
-    let finish = finish_of(m, v, start);
-    set(m, READY, v, ready);
-    set(m, START, v, start);
-    set(m, FINISH, v, finish);
-    finish != old
+// Carries the time of an edge's first node to its second; gives whether the second's finish changed.
+fn relax(sheet: &mut Sheet, setting: &Setting, e: &Edge) -> bool {
+    let from = sheet[e.from.place()];
+    let carried = match e.sort {
+        Sort::Start => from.start,
+        Sort::Finish => from.finish,
+    };
+    let old = sheet[e.to.place()];
+    let new = times_from(sheet, setting, e.to, old.ready.max(carried));
+    sheet[e.to.place()] = new;
+    new.finish != old.finish
 }
 
 // One sweep over the edges; gives whether a time changed.
-fn sweep(m: &mut [u32; 2240], edges: &[u32; 840], open: &[u64; 60]) -> bool {
+fn sweep(sheet: &mut Sheet, edges: &Edges, setting: &Setting) -> bool {
     let mut changed = false;
-    for k in 0..840 {
-        let e = edges[k];
-        if e != 0 && relax(m, open, e) {
+    for e in edges.iter().flatten() {
+        if relax(sheet, setting, e) {
             changed = true;
         }
     }
@@ -74,31 +102,27 @@ fn sweep(m: &mut [u32; 2240], edges: &[u32; 840], open: &[u64; 60]) -> bool {
 }
 
 // All ready at 0.
-fn reset(m: &mut [u32; 2240]) {
-    for v in 0..300 {
-        set(m, READY, v, 0);
-        set(m, START, v, 0);
-        let finish = finish_of(m, v, 0);
-        set(m, FINISH, v, finish);
-    }
+fn at_once(latencies: &[u8; 60]) -> Sheet {
+    from_fn(|k| Times {
+        ready: 0,
+        start: 0,
+        finish: latency_of(latencies, Node::at(k)),
+    })
 }
 
-// The times, the latencies and the two weights of each EX being laid.
-pub fn relaxed(m: &mut [u32; 2240], edges: &[u32; 840], open: &[u64; 60]) {
-    reset(m);
-    for turn in 0..302usize {
-        if !sweep(m, edges, open) {
-            break;
-        }
-    }
+// The times, once no sweep changes one.
+pub fn relaxed(edges: &Edges, setting: &Setting) -> Sheet {
+    let mut sheet = at_once(&setting.latencies);
+    repeated(302, || sweep(&mut sheet, edges, setting));
+    sheet
 }
 
 // The earliest times: the lowest latencies, and no contention.
-pub fn earliest(b: Block, edges: &[u32; 840]) -> [u32; 2240] {
-    let lo = column(b, LO);
-    let open = [0u64; 60];
-    let mut m = [0u32; 2240];
-    lay(&mut m, &lo);
-    relaxed(&mut m, edges, &open);
-    m
+pub fn earliest(b: &Block, edges: &Edges) -> Sheet {
+    let setting = Setting {
+        latencies: column(b, |e| e.lo),
+        open: [[false; 60]; 60],
+        weights: [Weight::default(); 60],
+    };
+    relaxed(edges, &setting)
 }

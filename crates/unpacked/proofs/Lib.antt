@@ -1,3 +1,4 @@
-pub mod LastWriters
+pub mod RegisterSources
 pub mod ReadyTimes
-pub mod BlockColumns
+pub mod BlockInstructions
+pub mod StageNumbers

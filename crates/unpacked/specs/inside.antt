@@ -1,2 +1,4 @@
 pub mod ReadyByStage
+pub mod Sources
+pub mod StageNumbers
 pub mod UnpackedBlock

@@ -1,38 +1,42 @@
-// What the analysis and a cycle of play both ask of a block again and again: its header's numbers, its columns, its last
-// writers, and the ready time of each stage. The whole play takes the header's numbers from here.
+// What the analysis and a cycle of play both ask of a block again and again: its header's numbers, its instructions with their
+// last writers, and the ready time of each stage. The whole play takes the header's numbers from here.
 #![tactic(auto)]
 
-mod columns;
+mod blocks;
+mod last_writers;
 mod numbers;
 mod stages;
+mod unpacked_block;
 
-pub use columns::{columns_of, shape_of};
-pub use numbers::{index, larger, small, smaller, time, wide};
-pub use stages::{latency_of, ready_cm, ready_ex, ready_id, ready_if};
+pub use blocks::{instructions_of, shape_of, unpacked_of};
+pub use last_writers::LastWriters;
+pub use numbers::time;
+pub use stages::{latency_of, ready_cm, ready_ex, ready_id, ready_if, stage_of};
+pub use unpacked_block::UnpackedBlock;
 
-// The stages of an instruction, in node order: stage g of instruction i is node 5 i + g.
-pub const IF: usize = 0;
+// The stages of an instruction, in node order: IF, ID, EX, WB, CM.
+#[derive(Clone, Copy, PartialEq, Eq)]
+pub enum Stage {
+    Fetch,
+    Decode,
+    Execute,
+    Write,
+    Commit,
+}
 
-pub const ID: usize = 1;
+// Their numbers, as places in a list of times: stage g of instruction i is node 5 i + g.
+pub const IF: usize = Stage::Fetch as usize;
 
-pub const EX: usize = 2;
+pub const ID: usize = Stage::Decode as usize;
 
-pub const WB: usize = 3;
+pub const EX: usize = Stage::Execute as usize;
 
-pub const CM: usize = 4;
+pub const WB: usize = Stage::Write as usize;
+
+pub const CM: usize = Stage::Commit as usize;
 
 // How long a fetch takes.
 pub const FETCH: u8 = 1;
-
-// The columns of a block stand one after the other, 60 numbers each: the kinds from 0 on, then the lowest latencies, the
-// highest, and one more than the source of the first and of the second register that each instruction reads, or 0.
-pub const LOWS: usize = 60;
-
-pub const HIGHS: usize = 120;
-
-pub const FIRSTS: usize = 180;
-
-pub const SECONDS: usize = 240;
 
 // The header's numbers, as indices.
 #[derive(Clone, Copy)]
@@ -43,4 +47,16 @@ pub struct Shape {
     pub f: usize,
     pub d: usize,
     pub c: usize,
+}
+
+// An instruction: its unit kind, its lowest and highest latency, and its two sources, the instructions that write what it
+// reads. A source is one more than its number, or 0 where there is none: that number is the row of a table whose row 0
+// stands for none.
+#[derive(Clone, Copy, Default)]
+pub struct Instruction {
+    pub kind: u8,
+    pub low: u8,
+    pub high: u8,
+    pub first: u8,
+    pub second: u8,
 }

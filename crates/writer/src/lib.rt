@@ -2,66 +2,54 @@
 #![tactic(auto)]
 
 ghost use Rattle.std.specs.Prelude.{◌≡◌, ◌++◌, ◌+◌, ◌≤◌, length, drop};
-ghost use Rattle.lists.specs.Lists.{least, put};
+ghost use Rattle.lists.specs.Lists.{first_at, put};
 ghost use Rattle.record.specs.Rules.{broken};
 ghost use Rattle.record.specs.Layout.{head_bytes, entry_bytes, entries_bytes, encoded};
 ghost use Rattle.record.specs.Promises.{Whole, TestsBlock, Writes};
 
-use record::{
-    Answer, Block, Entry, HI, LO, READS1, READS2, Reason, WRITES, ZERO1, ZERO2, entry_ok,
-    header_fault, seal,
-};
+use record::{Block, Entry, Reason, entry_ok, header_fault, seal};
 
-// The header's bytes. The promise also says what every block value is: the machine tells it where a field is computed with.
+// The header's bytes. The promise also says what every block value is: the machine tells it where a field is computed with, so
+// the number is cut in two here.
 fn head_bytes(b: Block) -> [u8; 28]
     ensures { (result ≡ head_bytes b) × Whole b }
 {
-    let x = b.number;
-    let y = b.number / 256;
-    let z = y / 256;
-    let u = z / 256;
-    let x0 = (x % 256) as u8;
-    let x1 = (y % 256) as u8;
-    let x2 = (z % 256) as u8;
-    let x3 = (u % 256) as u8;
+    let [x0, x1] = ((b.number % 65536) as u16).to_le_bytes();
+    let [x2, x3] = ((b.number / 65536) as u16).to_le_bytes();
     [
         b'B', b'L', b'K', b'1', b.n, b.q, b.w, b.f, b.d, b.c, b.origin, 0, x0, x1, x2, x3, 0, 0, 0,
         0, 0, 0, 0, 0, 0, 0, 0, 0,
     ]
 }
 
-// The first entry that breaks its rule, or 60.
-fn block_entry_fault(b: Block) -> usize
-    ensures { result ≡ least 0 60 (broken (encoded b)) }
+// The first entry that breaks its rule, if there is one.
+fn block_entry_fault(b: Block) -> Option<usize>
+    ensures { result ≡ first_at 0 60 (broken (encoded b)) }
 {
-    let n = b.n;
-    for i in 0..60 {
-        let e = b.entries[i];
-        if !entry_ok(n, i, e) {
-            return i;
+    for (i, e) in b.entries.iter().enumerate() {
+        if !entry_ok(b.n, i, *e) {
+            return Some(i);
         }
     }
-    60
+    None
 }
 
 // The tests of a block value whose header bytes are known.
-fn tested(b: Block, head: &[u8; 28]) -> Answer
+fn tested(b: Block, head: &[u8; 28]) -> Result<(), Reason>
     requires { (head.now ≡ head_bytes b) × Whole b }
     ensures { TestsBlock b result }
 {
-    let h = header_fault(head);
-    if h < 28 {
-        return Answer::Refused(Reason::Header(h));
+    if let Some(k) = header_fault(head) {
+        return Err(Reason::Header(k));
     }
-    let i = block_entry_fault(b);
-    if i < 60 {
-        return Answer::Refused(Reason::Rule(i));
+    match block_entry_fault(b) {
+        Some(i) => Err(Reason::Rule(i)),
+        None => Ok(()),
     }
-    Answer::Accepted
 }
 
 // Tests a block value, as the writer does and every other operation that takes one.
-pub fn block_answer(b: Block) -> Answer
+pub fn block_answer(b: Block) -> Result<(), Reason>
     ensures { TestsBlock b result }
 {
     let head = head_bytes(b);
@@ -73,32 +61,23 @@ pub fn put_head(head: &[u8], out: &mut [u8])
     requires { (length head.now ≡ 28) × (length out.old ≡ 512) }
     ensures { out.new ≡ head.now ++ drop 28 out.old }
 {
-    for k in 0..28 {
-        out[k] = head[k];
-    }
+    out[..28].copy_from_slice(head);
 }
 
 fn put_entry(e: Entry, at: usize, out: &mut [u8])
     requires { at + 8 ≤ length out.old }
     ensures { out.new ≡ put out.old at (entry_bytes e) }
 {
-    out[at] = e.kind;
-    out[at + LO] = e.lo;
-    out[at + HI] = e.hi;
-    out[at + WRITES] = e.writes;
-    out[at + READS1] = e.reads1;
-    out[at + READS2] = e.reads2;
-    out[at + ZERO1] = 0;
-    out[at + ZERO2] = 0;
+    let bytes = [e.kind, e.lo, e.hi, e.writes, e.reads1, e.reads2, 0, 0];
+    out[at..at + 8].copy_from_slice(&bytes);
 }
 
 fn put_entries(b: Block, out: &mut [u8])
     requires { length out.old ≡ 512 }
     ensures { out.new ≡ put out.old 28 (entries_bytes b) }
 {
-    for i in 0..60 {
-        let e = b.entries[i];
-        put_entry(e, 28 + 8 * i, out);
+    for (i, e) in b.entries.iter().enumerate() {
+        put_entry(*e, 28 + 8 * i, out);
     }
 }
 
@@ -112,19 +91,14 @@ fn put_block(b: Block, head: &[u8; 28], out: &mut [u8])
 }
 
 // Writes the record of a block to an output of 512 bytes.
-pub fn write(b: Block, out: &mut [u8]) -> Answer
+pub fn write(b: Block, out: &mut [u8]) -> Result<(), Reason>
     ensures { Writes b out.old result out.new }
 {
     let head = head_bytes(b);
-    let answer = tested(b, &head);
-    match answer {
-        Answer::Refused(_) => answer,
-        Answer::Accepted => {
-            if out.len() != 512 {
-                return Answer::Refused(Reason::Output);
-            }
-            put_block(b, &head, out);
-            Answer::Accepted
-        }
+    tested(b, &head)?;
+    if out.len() != 512 {
+        return Err(Reason::Output);
     }
+    put_block(b, &head, out);
+    Ok(())
 }

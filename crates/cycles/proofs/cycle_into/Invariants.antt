@@ -9,5 +9,5 @@ use Rattle.cycles.proofs.CycleByNode.{Passed}
 use Rattle.cycles.proofs.cycle_into.Given as goal
 
 abbrev pub invariant-loop-v : goal.invariant-loop-v
-invariant-loop-v l = (l.end ≡ 5 * l.h.n) × (l.v ≤ l.end) × Lent l.h l.u l.lat l.s
-    × ((b : Block) → Unpacked b l.h l.u → Timed l.t l.initial.s → Passed b (chosen b l.lat) l.t l.initial.s l.v l.s l.ends)
+invariant-loop-v l = (l.end ≡ 5 * l.u.shape.n) × (l.v ≤ l.end) × Lent l.u l.lat l.s
+    × ((b : Block) → Unpacked b l.u.shape l.u.instructions → Timed l.t l.initial.s → Passed b (chosen b l.lat) l.t l.initial.s l.v l.s l.ends)

@@ -1,25 +1,20 @@
 -- `exports::bench_play_length` meets its contract, by what the reader and the play promise. Assumes nothing.
 use Rattle.exports.proofs.DoorVerdicts.{reading_place, door_refused}
 use Rattle.exports.proofs.OperationDoors.{length_place, length_kept, length_given}
-use borrow.Author.Rules.{rules}
 use Rattle.exports.proofs.bench_play_length.Goals as goal
 
-pub one_number-requires : goal.one_number-requires
-one_number-requires c = reading_place _ _ c.read-r.ensures
+pub refused-requires : goal.refused-requires
+refused-requires c = length_place _ _ c.in-Ok.ensures _ _ c.in-Err-play_length.ensures
 
-pub one_number-requires-in-Refused-played : goal.one_number-requires-in-Refused-played
-one_number-requires-in-Refused-played c =
-    length_place _ _ c.read-r.ensures (search rules) _ _ c.play_length-l.ensures
+pub refused-requires-in-Err : goal.refused-requires-in-Err
+refused-requires-in-Err c = reading_place _ _ c.in-Err.ensures
 
-pub returns-in-Refused : goal.returns-in-Refused
-returns-in-Refused c =
-    door_refused _ _ c.read-r.ensures _ _ _ c.in-Refused.field-0 _ c.in-Refused.is c.one_number.ensures
+pub returns-in-Ok-play_length : goal.returns-in-Ok-play_length
+returns-in-Ok-play_length c = length_given _ _ c.in-Ok.ensures _ _ _ c.in-Ok-play_length.ensures
 
-pub returns-in-Refused-played : goal.returns-in-Refused-played
-returns-in-Refused-played c =
-    let door = length_kept _ _ c.read-r.ensures (search rules) _ _ c.play_length-l.ensures in
-    door _ c.in-Refused-played.field-0 c.in-Refused-played.is _ c.one_number-in-Refused-played.ensures
+pub returns-in-Err-play_length : goal.returns-in-Err-play_length
+returns-in-Err-play_length c =
+    length_kept _ _ c.in-Ok.ensures _ _ _ c.in-Err-play_length.ensures _ c.refused.ensures
 
-pub returns-in-Accepted-played : goal.returns-in-Accepted-played
-returns-in-Accepted-played c =
-    length_given _ _ c.read-r.ensures (search rules) _ _ c.play_length-l.ensures _ (search rules)
+pub returns-in-Err : goal.returns-in-Err
+returns-in-Err c = door_refused _ _ _ c.in-Err.ensures _ _ _ c.refused-in-Err.ensures

@@ -3,6 +3,7 @@
 use Rattle.std.specs.Prelude.{ℕ, ◌+◌, ◌-◌, ◌%◌, min, max, List, map, set}
 use Rattle.lists.specs.Sums.{largest, sum}
 use Rattle.model.specs.Nodes.{IF, ID, EX, WB, CM, node}
+use Rattle.unpacked.specs.declared.Instruction.{Instruction}
 use Rattle.unpacked.specs.inside.UnpackedBlock.{high_of}
 use Rattle.unpacked.specs.inside.ReadyByStage.{ready_if, ready_id, ready_cm}
 use Rattle.pairs.specs.inside.PairRows.{finish_ex}
@@ -24,7 +25,7 @@ committed c l x s i =
     starts s' (node CM i) (ready_cm c s' i)
 
 -- the latest start of an EX that is ready at r: row has its earlier ones, most is the largest latency of its later ones or 0
-unfoldable pub latest_of : List ℕ → List ℕ → List ℕ → ℕ → ℕ → ℕ
+unfoldable pub latest_of : List Instruction → List ℕ → List ℕ → ℕ → ℕ → ℕ
 latest_of u s row most r =
     let b = r + (max most 1 - 1) in
     min (b + sum (map (high_of u) row)) (max b (largest (map (finish_ex u s) row)))

@@ -1,9 +1,9 @@
--- A block unpacked: its header's numbers, and a list with the columns of its instructions, one after the other, 60 numbers each.
--- Only promises of inside functions use these words.
+-- A block unpacked: its header's numbers, and a list of its instructions. Only promises of inside functions use these words.
 use Rattle.std.specs.Prelude.{ℕ, ◌+◌, ◌<◌, ◌≤◌, ◌≡◌, List, [], ◌∷◌, get_or}
 use Rattle.record.specs.Refusals.{block_verdict}
 use Rattle.record.specs.declared.Block.{Block}
 use Rattle.model.specs.Nodes.{entry, source}
+use Rattle.unpacked.specs.declared.Instruction.{Instruction}
 use Rattle.unpacked.specs.declared.Shape.{Shape}
 
 -- the header's numbers; and no latency of a value of the code is above 255
@@ -21,24 +21,28 @@ unfoldable pub code : List ℕ → ℕ
 code [] = 0
 code (i ∷ is) = i + 1
 
--- the number of instruction i in each column u: its kind, its lowest and highest latency, its two sources
-abbrev pub kind_of : List ℕ → ℕ → ℕ
-kind_of u i = get_or u i 0
+-- what stands for an instruction beyond the list
+abbrev pub no_instruction : Instruction
+no_instruction = record { kind = 0; low = 0; high = 0; first = 0; second = 0 }
 
-abbrev pub low_of : List ℕ → ℕ → ℕ
-low_of u i = get_or u (60 + i) 0
+-- of instruction i: its kind, its lowest and highest latency, its two sources
+abbrev pub kind_of : List Instruction → ℕ → ℕ
+kind_of u i = (get_or u i no_instruction).kind
 
-abbrev pub high_of : List ℕ → ℕ → ℕ
-high_of u i = get_or u (120 + i) 0
+abbrev pub low_of : List Instruction → ℕ → ℕ
+low_of u i = (get_or u i no_instruction).low
 
-abbrev pub first_of : List ℕ → ℕ → ℕ
-first_of u i = get_or u (180 + i) 0
+abbrev pub high_of : List Instruction → ℕ → ℕ
+high_of u i = (get_or u i no_instruction).high
 
-abbrev pub second_of : List ℕ → ℕ → ℕ
-second_of u i = get_or u (240 + i) 0
+abbrev pub first_of : List Instruction → ℕ → ℕ
+first_of u i = (get_or u i no_instruction).first
 
--- the columns of a block
-pub record Columns (b : Block) (u : List ℕ) : Type 0 where
+abbrev pub second_of : List Instruction → ℕ → ℕ
+second_of u i = (get_or u i no_instruction).second
+
+-- the instructions of a block
+pub record Instructions (b : Block) (u : List Instruction) : Type 0 where
   pub kind : (i : ℕ) → i < b.n → kind_of u i ≡ (entry b i).kind
   pub low : (i : ℕ) → i < b.n → low_of u i ≡ (entry b i).lo
   pub high : (i : ℕ) → i < b.n → high_of u i ≡ (entry b i).hi
@@ -46,14 +50,14 @@ pub record Columns (b : Block) (u : List ℕ) : Type 0 where
   pub second : (i : ℕ) → i < b.n → second_of u i ≡ code (source b (entry b i).reads2 i)
 
 -- an accepted block, unpacked
-pub record Unpacked (b : Block) (h : Shape) (u : List ℕ) : Type 0 where
+pub record Unpacked (b : Block) (h : Shape) (u : List Instruction) : Type 0 where
   pub accepted : block_verdict b ≡ (0, 0)
   pub shape : Shapes b h
-  pub columns : Columns b u
+  pub instructions : Instructions b u
 
--- columns that lead nowhere outside: at most 60 instructions, a window of at most 60, four kinds, and each source stands
+-- instructions that lead nowhere outside: at most 60 instructions, a window of at most 60, four kinds, and each source stands
 -- before its reader
-pub record Within (h : Shape) (u : List ℕ) : Type 0 where
+pub record Within (h : Shape) (u : List Instruction) : Type 0 where
   pub few : h.n ≤ 60
   pub near : h.w ≤ 60
   pub kind : (i : ℕ) → i < h.n → kind_of u i ≤ 3

@@ -1,6 +1,9 @@
 -- `writer::head_bytes` meets its contract: what every block value is comes from what the machine knows of its parts.
 -- Assumes nothing.
-use mathlib.Core.Path.{refl}
+use mathlib.Core.Path.{◌≡◌, refl}
+use Prim.Native.Nat.{◌/◌, ◌%◌}
+use native.Mathlib.Omega.{arith}
+use lib.ListN.{get_or}
 use Rattle.lists.specs.Bytes.{bytes}
 use Rattle.lists.proofs.TableByIndex.{length_mapped}
 use Rattle.record.specs.Layout.{head_bytes}
@@ -25,4 +28,9 @@ returns c =
       entries = search (length_mapped, rules);
       each = each_bytes c.args.b.entries g.1.1.1.1.1.1.1.1.0;
     } in
-    (refl, whole)
+    let x = c.args.b.number in
+    let first : get_or c.to_le_bytes.result 0 0 ≡ x % 256 = rw c.to_le_bytes.ensures (omega arith) in
+    let second : get_or c.to_le_bytes.result 1 0 ≡ x / 256 % 256 = rw c.to_le_bytes.ensures (omega arith) in
+    let third : get_or c.to_le_bytes-2.result 0 0 ≡ x / 256 / 256 % 256 = rw c.to_le_bytes-2.ensures (omega arith) in
+    let fourth : get_or c.to_le_bytes-2.result 1 0 ≡ x / 256 / 256 / 256 % 256 = rw c.to_le_bytes-2.ensures (omega arith) in
+    (rw (first, second, third, fourth) refl, whole)

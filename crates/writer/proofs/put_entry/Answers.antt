@@ -1,11 +1,9 @@
--- `writer::put_entry` meets its contract: eight stores in a row. Assumes nothing.
-use native.Mathlib.Numerals.{add-one, add-two, add-three, add-four, add_five, add_six, add_seven}
-use lib.Seq.{sets-eq}
+-- `writer::put_entry` meets its contract: the eight bytes go where the entry stands. Assumes nothing.
+use Rattle.std.proofs.Common.{arith, ◌+◌, ◌-◌}
 use Rattle.record.specs.Layout.{entry_bytes}
-use borrow.Author.Rules.{rules}
+use Rattle.lists.proofs.JoinedPieces.{part_put}
 use Rattle.writer.proofs.put_entry.Goals as goal
 
 pub returns : goal.returns
 unfolding entry_bytes
-returns c =
-    rw (add-one, add-two, add-three, add-four, add_five, add_six, add_seven) (sets-eq (entry_bytes c.args.e) c.args.out.now c.args.at (search rules))
+returns c = part_put c.args.at (c.args.at + 8 - c.args.at) c.args.out.now (entry_bytes c.args.e) _ c.copy_from_slice.ensures.after (omega arith)

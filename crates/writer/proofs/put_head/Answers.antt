@@ -1,22 +1,11 @@
--- `writer::put_head` meets its contract: the bytes passed are the header's, and the others are as they were. Assumes nothing.
-use mathlib.Core.Path.{◌≡◌, refl}
-use lib.ListN.{take, length-set}
-use lib.Seq.{take_all}
-use Rattle.lists.proofs.JoinedPieces.{copy_more}
-use borrow.Author.Rules.{rules}
+-- `writer::put_head` meets its contract: the header stands in front, and the others are as they were. Assumes nothing.
+use Rattle.std.proofs.Common.{arith, sym}
+use lib.Seq.{length-take-le}
 use Rattle.writer.proofs.put_head.Goals as goal
 
-pub loop-k-init : goal.loop-k-init
-loop-k-init c = (search rules, search rules, refl)
+pub slice_bounds-copy_from_slice-end-2 : goal.slice_bounds-copy_from_slice-end-2
+slice_bounds-copy_from_slice-end-2 c = sym (length-take-le 28 c.args.out.now (omega (arith, c.requires.1)))
 
-pub loop-k-preserved : goal.loop-k-preserved
-loop-k-preserved c =
-    let t = c.loop-k in
-    (search rules, simp length-set (search rules), rw t.invariant.2 (copy_more c.args.head.now c.args.out.now t.k 0 (search rules) (search rules)))
-
-pub returns : goal.returns
-returns c =
-    let t = c.loop-k in
-    let e : t.k ≡ 28 = search rules in
-    let all : take 28 c.args.head.now ≡ c.args.head.now = take_all 28 c.args.head.now (search rules) in
-    rw (t.invariant.2, e, all) refl
+pub copy_from_slice-requires : goal.copy_from_slice-requires
+copy_from_slice-requires c =
+    omega (arith, c.requires.0, length-take-le 28 c.args.out.now (omega (arith, c.requires.1)))

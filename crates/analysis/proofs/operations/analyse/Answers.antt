@@ -1,27 +1,24 @@
 -- `analysis::operations::analyse` meets its contract. Assumes nothing.
-use mathlib.Core.Path.{◌≡◌}
-use Rattle.record.specs.Refusals.{block_verdict}
-use Rattle.record.proofs.Answers.{accepted_so}
+use Rattle.std.proofs.Common.{refl, sym}
+use Rattle.std.proofs.lemmas.Result.{err_from_is_err_and}
 use Rattle.analysis.proofs.Outcomes.{analyse_done, analyse_output, analyse_refused}
-use borrow.Author.Rules.{rules}
 use Rattle.analysis.proofs.operations.analyse.Goals as goal
+
+pub returns-in_err-block_answer : goal.returns-in_err-block_answer
+returns-in_err-block_answer c =
+    let p = err_from_is_err_and c.from_residual.result c.from_residual.ensures.1 in
+    let t = c.in_err-block_answer.ensures in
+    rw (p.1, p.2) (analyse_refused _ _ t.whole _ _ refl t.answer)
 
 pub returns-then-out-ne512 : goal.returns-then-out-ne512
 returns-then-out-ne512 c =
-    let accepted : block_verdict c.args.b ≡ (0, 0) = accepted_so _ (search rules) c.block_answer-answer.ensures.answer in
-    analyse_output _ _ c.block_answer-answer.ensures.whole accepted c.if-out-ne512.true
+    let t = c.in_ok-block_answer.ensures in
+    analyse_output _ _ t.whole (sym t.answer) c.if-out-ne512.true
 
 pub result_into-requires : goal.result_into-requires
-result_into-requires c =
-    let accepted : block_verdict c.args.b ≡ (0, 0) = accepted_so _ (search rules) c.block_answer-answer.ensures.answer in
-    (accepted, search rules)
+result_into-requires c = (sym c.in_ok-block_answer.ensures.answer, c.if-out-ne512.false)
 
-pub returns-in-Refused : goal.returns-in-Refused
-returns-in-Refused c =
-    let t = c.block_answer-answer.ensures in
-    analyse_refused _ _ t.whole c.in-Refused.field-0 _ c.in-Refused.is t.answer
-
-pub returns-else-out-ne512 : goal.returns-else-out-ne512
-returns-else-out-ne512 c =
-    let accepted : block_verdict c.args.b ≡ (0, 0) = accepted_so _ (search rules) c.block_answer-answer.ensures.answer in
-    analyse_done c.args.b c.args.out.now c.block_answer-answer.ensures.whole accepted (search rules) _ c.result_into.ensures
+pub returns : goal.returns
+returns c =
+    let t = c.in_ok-block_answer.ensures in
+    analyse_done c.args.b c.args.out.now t.whole (sym t.answer) c.if-out-ne512.false _ c.result_into.ensures

@@ -13,8 +13,8 @@ loop-i-init c = (search rules, c.requires, pieces_none 8 28 (times_at _ _ _ _) c
 pub loop-i-preserved : goal.loop-i-preserved
 loop-i-preserved c =
     let t = c.loop-i in
-    let f = times_at c.args.n c.args.u.now c.args.early.now c.args.late.now in
-    let eight = length_times c.args.n c.args.u.now c.args.early.now c.args.late.now in (
+    let f = times_at c.args.n c.args.u.now c.args.times.now.early c.args.times.now.late in
+    let eight = length_times c.args.n c.args.u.now c.args.times.now.early c.args.times.now.late in (
       search rules,
       search rules,
       c.put_times.ensures ∙ rw t.invariant.2 (pieces_more 8 28 f c.args.out.now eight t.i _ refl (search rules)),
@@ -24,6 +24,6 @@ pub returns : goal.returns
 returns c =
     let t = c.loop-i in
     let e : t.i ≡ 60 = search rules in
-    let f = times_at c.args.n c.args.u.now c.args.early.now c.args.late.now in
-    let eight = length_times c.args.n c.args.u.now c.args.early.now c.args.late.now in
+    let f = times_at c.args.n c.args.u.now c.args.times.now.early c.args.times.now.late in
+    let eight = length_times c.args.n c.args.u.now c.args.times.now.early c.args.times.now.late in
     rw (t.invariant.2, e) (pieces_all 8 28 f c.args.out.now eight 60)

@@ -7,4 +7,4 @@ use Rattle.analysis.specs.inside.OutputSteps.{times_at}
 use Rattle.analysis.proofs.outputs.put_all_times.Given as goal
 
 abbrev pub invariant-loop-i : goal.invariant-loop-i
-invariant-loop-i l = (l.i ≤ 60) × (length l.out ≡ 512) × (l.out ≡ pieces_in 8 28 (times_at l.n l.u l.early l.late) l.initial.out l.i)
+invariant-loop-i l = (l.i ≤ 60) × (length l.out ≡ 512) × (l.out ≡ pieces_in 8 28 (times_at l.n l.u l.times.early l.times.late) l.initial.out l.i)

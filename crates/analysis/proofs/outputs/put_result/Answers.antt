@@ -6,5 +6,5 @@ use Rattle.analysis.proofs.outputs.put_result.Goals as goal
 pub returns : goal.returns
 returns c =
     c.seal.ensures
-    ∙ put_made c.args.s c.args.u.now c.args.early.now c.args.late.now c.args.out.now _ _ _ c.requires
+    ∙ put_made c.args.s c.args.u.now c.args.times.now.early c.args.times.now.late c.args.out.now _ _ _ c.requires
     c.result_head-head.ensures c.put_head.ensures c.put_all_times.ensures

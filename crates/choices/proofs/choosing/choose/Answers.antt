@@ -5,18 +5,12 @@ use native.Mathlib.Omega.{arith}
 use Rattle.choices.specs.inside.NoteSteps.{ready_of, end_of, key_of}
 use Rattle.choices.proofs.choosing.choose.Goals as goal
 
-pub ready_of-r-requires : goal.ready_of-r-requires
-ready_of-r-requires c = c.requires.leads c.args.c c.requires.some
-
-pub end_of-e-requires : goal.end_of-e-requires
-end_of-e-requires c = c.requires.leads c.args.c c.requires.some
-
 pub returns-then-ready : goal.returns-then-ready
 unfolding key_of
 returns-then-ready c =
     let end = c.end_of-e.ensures in
     let ready = c.ready_of-r.ensures in
-    let by : ready_of c.args.rows.now c.args.x.now c.args.c ≤ end_of c.args.rows.now c.args.x.now c.args.c = omega (arith, c.if-ready.true, ready.0, end.0) in
+    let by : ready_of c.args.p.now.rows c.args.x.now c.args.c ≤ end_of c.args.p.now.rows c.args.x.now c.args.c = omega (arith, c.if-ready.true, ready.0, end.0) in
     record {
       among =
           record { from = omega arith; below = c.requires.some; most = end.1; start = omega (arith, end.0, by) };
@@ -36,5 +30,5 @@ returns c =
     let scan = c.scan.ensures in
     let end = c.end_of-e.ensures in
     let ready = c.ready_of-r.ensures in
-    let after : end_of c.args.rows.now c.args.x.now c.args.c < ready_of c.args.rows.now c.args.x.now c.args.c = omega (arith, c.if-ready.false, ready.0, end.0) in
+    let after : end_of c.args.p.now.rows c.args.x.now c.args.c < ready_of c.args.p.now.rows c.args.x.now c.args.c = omega (arith, c.if-ready.false, ready.0, end.0) in
     record { among = scan.among; oldest = λ h. absurd (omega (arith, h, after)); first = λ h. scan.first }

@@ -8,7 +8,7 @@ use Rattle.choices.proofs.OneStart.{left}
 use Rattle.choices.proofs.choosing.until_started.Given as goal
 
 abbrev pub invariant-loop-x : goal.invariant-loop-x
-invariant-loop-x v = (b : Block) (l : List ℕ) → Playing b l v.rows → min b.n (v.c + b.w) ≤ v.m → Notes b l v.c v.m v.initial.x → Notes b l v.c v.m v.x
+invariant-loop-x v = (b : Block) (l : List ℕ) → Playing b l v.p.rows → min b.n (v.c + b.w) ≤ v.m → Notes b l v.c v.m v.initial.x → Notes b l v.c v.m v.x
 
 abbrev pub decreases-loop-x : goal.decreases-loop-x
 decreases-loop-x l = left l.m l.x

@@ -16,7 +16,7 @@ loop-i-preserved c =
       λ k. search rules,
       λ b l rows d P H e N.
           rw c.decode_one.ensures
-          (notes_decoded b l rows P c.args.h H d t.i t.x (t.invariant.2 b l rows d P H e N) fetch refl (omega arith) (omega arith)),
+          (notes_decoded b l rows P c.args.p.now.shape H d t.i t.x (t.invariant.2 b l rows d P H e N) fetch refl (omega arith) (omega arith)),
     )
 
 pub returns : goal.returns

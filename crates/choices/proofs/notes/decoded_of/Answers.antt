@@ -5,13 +5,4 @@ use Rattle.choices.proofs.notes.decoded_of.Goals as goal
 
 pub returns : goal.returns
 unfolding decoded_of
-returns c =
-    rw (
-      c.larger-2.ensures,
-      c.larger-s.ensures,
-      c.larger.ensures,
-      c.wide.ensures.0,
-      c.wide-2.ensures.0,
-      c.wide-3.ensures.0,
-    )
-    refl
+returns c = rw (c.max.ensures, c.from-2.ensures, c.max-s.ensures, c.from.ensures, c.max-room.ensures) refl

@@ -11,4 +11,4 @@ use Rattle.choices.proofs.table.table_into.Given as goal
 
 abbrev pub invariant-loop-c : goal.invariant-loop-c
 invariant-loop-c l = (l.c ≤ l.n) × (length l.out ≡ length l.initial.out)
-    × ((b : Block) → Playing b l.lat l.rows → Shapes b l.h → Notes b l.lat l.c l.m l.x × (l.m ≤ l.c + b.w) × (l.out ≡ table_in b l.lat l.initial.out (5 * l.c)))
+    × ((b : Block) → Playing b l.lat l.p.rows → Shapes b l.p.shape → Notes b l.lat l.c l.m l.x × (l.m ≤ l.c + b.w) × (l.out ≡ table_in b l.lat l.initial.out (5 * l.c)))

@@ -1,62 +1,52 @@
--- `pairs::rivals::first_apart` meets its contract: no row passed has one that is apart, and of this row none of those passed is. Assumes
--- nothing.
-use Prim.Native.Nat.{◌*◌, ◌+◌, ◌≤◌}
+-- `pairs::rivals::first_apart` meets its contract: no row passed has one that is apart, and of this row none of those passed is.
+-- Assumes nothing.
+use Prim.Native.Nat.{ℕ}
 use mathlib.Core.Path.{◌∙◌, ◌≡◌, ap, refl, sym}
+use mathlib.Core.Bool.{Bool, false, true}
 use native.Mathlib.Omega.{arith}
-use lib.ListN.{get_or}
+use lib.ListN.{get_or, length, take}
 use borrow.Author.Count.{below_more, below_none}
 use Rattle.lists.specs.Sums.{any}
+use Rattle.lists.proofs.Fronts.{any_more, take_end}
+use Rattle.lists.proofs.Elements.{get_or_in}
 use Rattle.lists.proofs.Least.{least_here, least_none}
-use Rattle.pairs.specs.inside.PairRows.{apart_ex}
+use Rattle.lists.proofs.Members.{any_in}
+use Rattle.pairs.specs.inside.PairRows.{apart_ex, row}
 use Rattle.pairs.specs.inside.RowSteps.{first_apart}
-use Rattle.pairs.proofs.RowScan.{found_one, pass_more}
+use Rattle.pairs.proofs.RowStore.{row_read}
 use borrow.Author.Rules.{rules}
 use Rattle.pairs.proofs.rivals.first_apart.Goals as goal
 
 pub scan-init : goal.scan-init
 scan-init c = (refl, search rules, below_none _)
 
-pub loop-k-init : goal.loop-k-init
+pub loop-i-init : goal.loop-i-init
 unfolding any
-loop-k-init c = (c.scan.invariant.0, search rules, refl)
-
-pub overflow_add-from : goal.overflow_add-from
-overflow_add-from c =
-    let few : 60 * c.scan.j + get_or c.args.count.now c.scan.j 0 ≤ 3600 = omega (arith, c.requires.1.few c.scan.j, c.scan-test.true, c.requires.0) in
-    record { fits = omega (arith, few) }
-
-pub bounds-list-from : goal.bounds-list-from
-bounds-list-from c =
-    let few : 60 * c.scan.j + get_or c.args.count.now c.scan.j 0 ≤ 3600 = omega (arith, c.requires.1.few c.scan.j, c.scan-test.true, c.requires.0) in
-    omega (arith, few, c.requires.1.long)
+loop-i-init c = (c.scan.invariant.0, refl)
 
 pub apart_at-requires : goal.apart_at-requires
-apart_at-requires c =
-    let p = c.requires in
-    (omega (arith, p.0, c.scan-test.true), omega (arith, p.1.each (60 * c.scan.j + c.loop-k.k), c.index.ensures))
+apart_at-requires c = (search rules, omega (arith, c.those-i-items.ensures.places.1 c.loop-i.i-index, c.from.ensures))
 
-pub overflow_add-k : goal.overflow_add-k
-overflow_add-k c =
-    let few : 60 * c.scan.j + get_or c.args.count.now c.scan.j 0 ≤ 3600 = omega (arith, c.requires.1.few c.scan.j, c.scan-test.true, c.requires.0) in
-    record { fits = omega (arith, few, c.loop-k.invariant.1) }
-
-pub loop-k-preserved : goal.loop-k-preserved
-loop-k-preserved c =
-    let few : 60 * c.scan.j + get_or c.args.count.now c.scan.j 0 ≤ 3600 = omega (arith, c.requires.1.few c.scan.j, c.scan-test.true, c.requires.0) in
-    let looked : apart_ex c.args.u.now c.args.early.now c.args.late.now c.scan.j (get_or c.args.list.now (60 * c.scan.j + c.loop-k.k) 0) ≡ c.apart_at.result = ap (apart_ex c.args.u.now c.args.early.now c.args.late.now c.scan.j) (sym c.index.ensures) ∙ sym c.apart_at.ensures in
-    let t = c.loop-k in
-    let j = c.scan.j in (
-      t.invariant.0,
-      omega arith,
-      pass_more (apart_ex c.args.u.now c.args.early.now c.args.late.now j) c.args.list.now (60 * j) t.k
-          (omega (arith, few, c.requires.1.long)) t.invariant.2 (looked ∙ c.if-apart_at.false),
-    )
+pub loop-i-preserved : goal.loop-i-preserved
+loop-i-preserved c =
+    let t = c.loop-i in
+    let j = c.scan.j in
+    let p : ℕ → Bool = apart_ex c.args.u.now c.args.times.now.early c.args.times.now.late j in
+    let xs = c.those-i-items.result.now in
+    let same : xs ≡ row c.args.rows.now j
+    = c.those-i-items.ensures.same ∙ row_read c.args.rows.now j _ (search rules) in
+    let looked : p (get_or xs t.i-index 0) ≡ false = ap p (sym c.from.ensures) ∙ sym c.apart_at.ensures ∙ c.if-apart_at.false in
+    let before : any p (take t.i-index xs) ≡ false = rw same t.invariant.1 in
+    (t.invariant.0, rw (← same) (any_more xs t.i-index (search rules) p ∙ rw (before, looked) refl))
 
 pub scan-preserved : goal.scan-preserved
 scan-preserved c =
-    let t = c.loop-k in
-    let e : t.k ≡ get_or c.args.count.now c.scan.j 0 = omega arith in
-    (t.invariant.0, omega arith, below_more _ _ c.scan.invariant.2 (rw (← e) t.invariant.2))
+    let t = c.loop-i in
+    let j = c.scan.j in
+    let same : c.those-i-items.result.now ≡ row c.args.rows.now j
+    = c.those-i-items.ensures.same ∙ row_read c.args.rows.now j _ (search rules) in
+    let e : length (row c.args.rows.now j) ≡ t.i-index = rw (← same) (search rules) in
+    (t.invariant.0, omega arith, below_more _ _ c.scan.invariant.2 (rw (take_end (row c.args.rows.now j) t.i-index e) at t.invariant.1))
 
 pub returns-after-scan : goal.returns-after-scan
 unfolding first_apart
@@ -67,10 +57,12 @@ returns-after-scan c =
 pub returns-then-apart_at : goal.returns-then-apart_at
 unfolding first_apart
 returns-then-apart_at c =
-    let few : 60 * c.scan.j + get_or c.args.count.now c.scan.j 0 ≤ 3600 = omega (arith, c.requires.1.few c.scan.j, c.scan-test.true, c.requires.0) in
-    let looked : apart_ex c.args.u.now c.args.early.now c.args.late.now c.scan.j (get_or c.args.list.now (60 * c.scan.j + c.loop-k.k) 0) ≡ c.apart_at.result = ap (apart_ex c.args.u.now c.args.early.now c.args.late.now c.scan.j) (sym c.index.ensures) ∙ sym c.apart_at.ensures in
-    let t = c.loop-k in
+    let t = c.loop-i in
     let j = c.scan.j in
-    sym (least_here 0 c.args.n _ j (omega arith) (omega arith) (λ i _ h. c.scan.invariant.2 i h)
-    (found_one (apart_ex c.args.u.now c.args.early.now c.args.late.now j) c.args.list.now (60 * j) t.k (get_or c.args.count.now j 0)
-    (omega arith) (omega (arith, few, c.requires.1.long)) (looked ∙ c.if-apart_at.true)))
+    let p : ℕ → Bool = apart_ex c.args.u.now c.args.times.now.early c.args.times.now.late j in
+    let xs = c.those-i-items.result.now in
+    let same : xs ≡ row c.args.rows.now j
+    = c.those-i-items.ensures.same ∙ row_read c.args.rows.now j _ (search rules) in
+    let looked : p (get_or xs t.i-index 0) ≡ true = ap p (sym c.from.ensures) ∙ sym c.apart_at.ensures ∙ c.if-apart_at.true in
+    let found : any p xs ≡ true = any_in p xs (get_or xs t.i-index 0) (get_or_in xs t.i-index (search rules)) looked in
+    sym (least_here 0 c.args.n _ j (omega arith) (omega arith) (λ i _ h. c.scan.invariant.2 i h) (rw same at found))

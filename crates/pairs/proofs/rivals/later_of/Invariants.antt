@@ -10,4 +10,4 @@ use Rattle.pairs.proofs.rivals.later_of.Given as goal
 
 abbrev pub invariant-loop-j : goal.invariant-loop-j
 invariant-loop-j l = (l.j ≤ l.n) × (length l.most ≡ 60)
-    × ((p : ℕ → ℕ → Bool) → Rows l.n p l.list l.count → (i : ℕ) → i < l.n → get_or l.most i 0 ≡ later_of p (high_of l.u) i l.j)
+    × ((p : ℕ → ℕ → Bool) → Rows l.n p l.rows → (i : ℕ) → i < l.n → get_or l.most i 0 ≡ later_of p (high_of l.u) i l.j)

@@ -1,5 +1,5 @@
 -- `pairs::rivals::later_row` meets its contract: each element of those passed has been raised. Assumes nothing.
-use Prim.Native.Nat.{ℕ, ◌<◌, max}
+use Prim.Native.Nat.{ℕ, max}
 use mathlib.Core.Path.{◌∙◌, ◌≡◌, ap}
 use mathlib.Core.List.{List}
 use native.Mathlib.Omega.{arith}
@@ -12,37 +12,26 @@ use Rattle.pairs.proofs.LaterLatencies.{raise_more}
 use borrow.Author.Rules.{rules}
 use Rattle.pairs.proofs.rivals.later_row.Goals as goal
 
-pub loop-k-init : goal.loop-k-init
+pub loop-i-init : goal.loop-i-init
 unfolding any
-loop-k-init c = (search rules, c.requires.0, λ i. omega arith)
+loop-i-init c = (search rules, search rules, λ i. omega arith)
 
-pub bounds-most-i : goal.bounds-most-i
-bounds-most-i c =
-    let below : c.index-i.result < 60 = omega (arith, c.requires.1 c.loop-k.k, c.index-i.ensures) in
-    omega (arith, below)
-
-pub bounds-most-i-in-loop-k : goal.bounds-most-i-in-loop-k
-bounds-most-i-in-loop-k c =
-    let below : c.index-i.result < 60 = omega (arith, c.requires.1 c.loop-k.k, c.index-i.ensures) in
-    omega (arith, below)
-
-pub loop-k-preserved : goal.loop-k-preserved
-loop-k-preserved c =
-    let below : c.index-i.result < 60 = omega (arith, c.requires.1 c.loop-k.k, c.index-i.ensures) in
-    let t = c.loop-k in (
+pub loop-i-preserved : goal.loop-i-preserved
+loop-i-preserved c =
+    let t = c.loop-i in (
       search rules,
       simp length-set (search rules),
-      raise_more c.args.x c.args.row.now c.args.most.now t.most t.k c.index-i.result (search rules) c.index-i.ensures
-          (omega (arith, below, t.invariant.1)) t.invariant.2 _ c.larger_byte.ensures,
+      raise_more c.args.x c.args.row.now c.args.most.now t.most t.i-index c.from-i.result (search rules) c.from-i.ensures
+          (omega (arith, c.requires t.i-index, c.from-i.ensures, t.invariant.1)) t.invariant.2 _ c.max.ensures,
     )
 
 pub returns : goal.returns
 returns c =
-    let t = c.loop-k in
-    let e : length c.args.row.now ≡ t.k = search rules in
+    let t = c.loop-i in
+    let e : length c.args.row.now ≡ t.i-index = search rules in
     record {
       long = t.invariant.1;
       each = λ i.
           t.invariant.2 i
-          ∙ ap (λ (r : List ℕ). max (get_or c.args.most.now i 0) (pick (any (eqb i) r) c.args.x 0)) (take_end c.args.row.now t.k e);
+          ∙ ap (λ (r : List ℕ). max (get_or c.args.most.now i 0) (pick (any (eqb i) r) c.args.x 0)) (take_end c.args.row.now t.i-index e);
     }

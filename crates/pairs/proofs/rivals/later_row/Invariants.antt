@@ -7,5 +7,5 @@ use Rattle.lists.specs.Lists.{pick}
 use Rattle.lists.specs.Sums.{any}
 use Rattle.pairs.proofs.rivals.later_row.Given as goal
 
-abbrev pub invariant-loop-k : goal.invariant-loop-k
-invariant-loop-k l = (l.k ≤ length l.row) × (length l.most ≡ 60) × ((i : ℕ) → get_or l.most i 0 ≡ max (get_or l.initial.most i 0) (pick (any (eqb i) (take l.k l.row)) l.x 0))
+abbrev pub invariant-loop-i : goal.invariant-loop-i
+invariant-loop-i l = (l.i-index ≤ length l.row) × (length l.most ≡ 60) × ((i : ℕ) → get_or l.most i 0 ≡ max (get_or l.initial.most i 0) (pick (any (eqb i) (take l.i-index l.row)) l.x 0))

@@ -1,29 +1,23 @@
--- `pairs::rivals::pairs_of` meets its contract: the sum of those passed, none above 60. Assumes nothing.
-use mathlib.Core.Path.{◌≡◌, refl}
+-- `pairs::rivals::pairs_of` meets its contract: how many those passed have, none above 60. Assumes nothing.
+use mathlib.Core.List.{List}
+use lib.ListN.{length}
+use mathlib.Core.Path.{sym, ◌∙◌, ◌≡◌, ap}
+use Prim.Native.Nat.{ℕ}
 use native.Mathlib.Omega.{arith}
-use Rattle.lists.specs.Sums.{sum}
-use Rattle.lists.proofs.Fronts.{sum_more}
+use Rattle.pairs.specs.inside.PairRows.{row}
+use Rattle.pairs.proofs.RowStore.{row_read, total_more, total_none}
 use borrow.Author.Rules.{rules}
 use Rattle.pairs.proofs.rivals.pairs_of.Goals as goal
 
 pub loop-j-init : goal.loop-j-init
-unfolding sum
-loop-j-init c = (search rules, refl, search rules)
-
-pub overflow_add-sum : goal.overflow_add-sum
-overflow_add-sum c =
-    record { fits = omega (arith, c.requires.2 c.loop-j.j, c.loop-j.invariant.2) }
+loop-j-init c = (search rules, sym (total_none c.args.rows.now), search rules)
 
 pub loop-j-preserved : goal.loop-j-preserved
 loop-j-preserved c =
-    let t = c.loop-j in (
-      search rules,
-      omega (arith, sum_more c.args.count.now t.j (omega (arith, c.requires.1, c.requires.0)), t.invariant.1),
-      omega (arith, c.requires.2 t.j, t.invariant.2),
-    )
-
-pub returns : goal.returns
-returns c =
     let t = c.loop-j in
-    let e : t.j ≡ c.args.n = search rules in
-    (rw (← e) t.invariant.1, search rules)
+    let e : c.len-sum.result ≡ length (row c.args.rows.now t.j)
+    = c.len-sum.ensures.0 ∙ ap (λ (xs : List ℕ). length xs) (row_read c.args.rows.now t.j _ (search rules)) in (
+      search rules,
+      omega (arith, total_more c.args.rows.now t.j, t.invariant.1, e),
+      omega (arith, c.len-sum.ensures.1, t.invariant.2),
+    )

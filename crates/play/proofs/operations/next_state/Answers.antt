@@ -5,7 +5,6 @@ use native.Mathlib.Omega.{arith}
 use lib.ListN.{length}
 use Rattle.model.specs.Nodes.{chosen}
 use Rattle.unpacked.specs.inside.UnpackedBlock.{Unpacked}
-use Rattle.unpacked.proofs.BlockColumns.{few, within}
 use Rattle.cycles.specs.inside.PlayFacts.{Timed}
 use Rattle.play.specs.Promises.{state_of}
 use Rattle.play.proofs.UnfitStates.{fit_now, fit_timed}
@@ -13,17 +12,11 @@ use Rattle.play.proofs.LatencyList.{listed}
 use Rattle.play.proofs.LengthAndState.{cycled}
 use Rattle.play.proofs.operations.next_state.Goals as goal
 
-pub columns_of-u-requires : goal.columns_of-u-requires
-columns_of-u-requires c = few c.args.b c.requires.0
-
 pub cycle_into-requires : goal.cycle_into-requires
 cycle_into-requires c =
-    let long : length c.args.p.starts ≡ 300 = c.well_formed.1.1.0.1.1.1.0.1.0.1 in
-    let unpacked : Unpacked c.args.b c.shape_of-h.result c.columns_of-u.result = record { accepted = c.requires.0; shape = c.shape_of-h.ensures; columns = c.columns_of-u.ensures } in
-    let timed : Timed c.wide.result c.args.p.starts = subst (λ (t : ℕ). Timed t c.args.p.starts) (sym c.wide.ensures.0) (fit_timed c.args.b (state_of c.args.p) long c.requires.2) in
-    let U = unpacked in
     let n = listed c.args.b c.args.lat.now c.requires.1 in
-    (timed.now, record { within = within _ _ _ U; list = omega (arith, n, U.shape.n); long = long })
+    let now = fit_now c.args.b (state_of c.args.p) c.requires.2 in
+    (omega (arith, c.from.ensures, now), record { list = omega (arith, n, c.unpacked_of-u.ensures.0.n); long = omega arith })
 
 pub overflow_add-result : goal.overflow_add-result
 overflow_add-result c =
@@ -31,8 +24,10 @@ overflow_add-result c =
 
 pub returns : goal.returns
 returns c =
-    let unpacked : Unpacked c.args.b c.shape_of-h.result c.columns_of-u.result = record { accepted = c.requires.0; shape = c.shape_of-h.ensures; columns = c.columns_of-u.ensures } in
-    let long : length c.args.p.starts ≡ 300 = c.well_formed.1.1.0.1.1.1.0.1.0.1 in
-    let timed : Timed c.wide.result c.args.p.starts = subst (λ (t : ℕ). Timed t c.args.p.starts) (sym c.wide.ensures.0) (fit_timed c.args.b (state_of c.args.p) long c.requires.2) in
-    let starts = c.cycle_into.ensures.played c.args.b unpacked timed in
-    cycled c.args.b (chosen c.args.b c.args.lat.now) (state_of c.args.p) c.wide.result _ c.wide.ensures.0 starts
+    let u = c.unpacked_of-u in
+    let unpacked : Unpacked c.args.b u.result.shape u.result.instructions
+    = record { accepted = c.requires.0; shape = u.ensures.0; instructions = u.ensures.1 } in
+    let long : length c.args.p.starts ≡ 300 = omega arith in
+    let timed : Timed c.from.result c.args.p.starts
+    = subst (λ (t : ℕ). Timed t c.args.p.starts) (sym c.from.ensures) (fit_timed c.args.b (state_of c.args.p) long c.requires.2) in
+    cycled c.args.b (chosen c.args.b c.args.lat.now) (state_of c.args.p) c.from.result _ c.from.ensures (c.cycle_into.ensures.played c.args.b unpacked timed)

@@ -2,11 +2,7 @@
 use mathlib.Core.Path.{sym, ◌∙◌}
 use native.Mathlib.Omega.{arith}
 use Rattle.play.proofs.LatencyList.{list_length, list_latency, list_none, room_short, room_right}
-use borrow.Author.Rules.{rules}
 use Rattle.play.proofs.refusals.lent_answer.Goals as goal
-
-pub latency_fault-i-requires : goal.latency_fault-i-requires
-latency_fault-i-requires c = (search rules, omega arith)
 
 pub returns-then-room-need : goal.returns-then-room-need
 returns-then-room-need c =
@@ -16,11 +12,12 @@ pub returns-then-lat-n : goal.returns-then-lat-n
 returns-then-lat-n c =
     sym (room_right c.args.b c.args.lat.now c.args.room (omega arith) ∙ list_length c.args.b c.args.lat.now (λ e. omega arith))
 
-pub returns-then-i-n : goal.returns-then-i-n
-returns-then-i-n c =
+pub returns-in-Some : goal.returns-in-Some
+returns-in-Some c =
     sym (room_right c.args.b c.args.lat.now c.args.room (omega arith)
-    ∙ list_latency c.args.b c.args.lat.now (omega arith) _ c.latency_fault-i.ensures c.if-i-n.true)
+    ∙ list_latency c.args.b c.args.lat.now (omega arith) _ c.in-Some.ensures.0 c.in-Some.ensures.1)
 
-pub returns : goal.returns
-returns c =
-    sym (room_right c.args.b c.args.lat.now c.args.room (omega arith) ∙ list_none c.args.b c.args.lat.now (omega arith) (search rules))
+pub returns-in-None : goal.returns-in-None
+returns-in-None c =
+    sym (room_right c.args.b c.args.lat.now c.args.room (omega arith)
+    ∙ list_none c.args.b c.args.lat.now (omega arith) (omega (arith, c.in-None.ensures)))

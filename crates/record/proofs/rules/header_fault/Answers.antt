@@ -1,22 +1,17 @@
--- `record::rules::header_fault` meets its contract: no byte passed is outside its range. Assumes nothing.
-use mathlib.Core.Path.{sym}
-use native.Mathlib.Omega.{arith}
-use borrow.Author.Count.{below_none, below_more}
-use Rattle.record.specs.Rules.{header_table, lows, highs, outside}
-use Rattle.lists.proofs.Least.{least_here, least_none}
-use borrow.Author.Rules.{rules}
+-- `record::rules::header_fault` meets its contract: the walk over the bytes and their rows stops at the first byte outside its
+-- range. Assumes nothing.
+use Rattle.std.proofs.Common.{rules, ℕ, true, false, ◌≡◌, ◌||◌, ltb}
+use borrow.Author.Tests.{tests}
+use Rattle.std.proofs.lemmas.Iterator.{IsFirst-from_position, YieldsList-from_slice, YieldsList-from_zip}
+use Rattle.record.specs.Rules.{header_table}
+use Rattle.record.proofs.HeaderRows.{rows_walk}
 use Rattle.record.proofs.rules.header_fault.Goals as goal
 
-pub loop-k-init : goal.loop-k-init
-loop-k-init c = (search rules, below_none _)
-
-pub returns-then-x-low : goal.returns-then-x-low
-unfolding outside header_table lows highs
-returns-then-x-low c = sym (least_here 0 28 _ _ (search rules) (search rules) (λ j _ h. c.loop-k.invariant.1 j h) c.if-x-low.true)
-
-pub loop-k-preserved : goal.loop-k-preserved
-unfolding outside header_table lows highs
-loop-k-preserved c = (search rules, below_more _ _ c.loop-k.invariant.1 c.if-x-low.false)
-
 pub returns : goal.returns
-returns c = sym (least_none 0 28 _ (search rules) (λ j _ h. c.loop-k.invariant.1 j (omega arith)))
+unfolding header_table
+returns c =
+    rows_walk c.args.s.now c.requires _
+    (IsFirst-from_position c.position.new.self _ _
+    (λ (x : ℕ × (ℕ × ℕ)). (ltb x.0 x.1.0 || ltb x.1.1 x.0) ≡ true) (λ (x : ℕ × (ℕ × ℕ)). (ltb x.0 x.1.0 || ltb x.1.1 x.0) ≡ false)
+    c.position.ensures.ran (YieldsList-from_zip (YieldsList-from_slice c.args.s.now cc) (YieldsList-from_slice header_table cc))
+    (λ x q k. search (rules, tests)) (λ x q k. search (rules, tests)))

@@ -2,9 +2,11 @@
 use Rattle.lists.specs.Lists.{tab, tab_from}
 use Rattle.record.specs.Rules.{unused_bytes}
 use Rattle.record.specs.Layout.{entry_bytes}
-use Rattle.record.proofs.EntryRules.{first_six}
+use Rattle.record.proofs.EntryRules.{six_in_turn}
 use Rattle.record.proofs.rules.unused_ok.Goals as goal
 
 pub returns : goal.returns
 unfolding unused_bytes entry_bytes tab tab_from
-returns c = first_six _ _ _ _ _ _
+returns c =
+    let z = c.default.ensures in
+    rw (c.eq.ensures, z.0, z.1.0, z.1.1.0, z.1.1.1.0, z.1.1.1.1.0, z.1.1.1.1.1) (six_in_turn _ _ _ _ _ _)

@@ -13,21 +13,21 @@ use borrow.Author.Rules.{rules}
 use Rattle.rounds.proofs.times.earliest_into.Goals as goal
 
 pub loop-i-init : goal.loop-i-init
-loop-i-init c = (refl, search rules, c.requires.1, λ b U. filled_none (ready b (lowest b)) _)
+loop-i-init c = (refl, search rules, search rules, λ b U. filled_none (ready b (lowest b)) _)
 
 pub fetch_into-requires : goal.fetch_into-requires
-fetch_into-requires c = omega (arith, c.requires.0.few)
+fetch_into-requires c = omega (arith, c.args.v.now.within.few)
 
 pub ready_ex-r-requires : goal.ready_ex-r-requires
 ready_ex-r-requires c =
     let i = c.loop-i.i in
-    let p = c.requires.0 in
-    let l : i < c.args.h.n = search rules in
+    let p = c.args.v.now.within in
+    let l : i < c.args.v.now.shape.n = search rules in
     (omega (arith, l, p.few), omega (arith, p.first i l, l, p.few), omega (arith, p.second i l, l, p.few))
 
 pub commit_into-requires : goal.commit_into-requires
 commit_into-requires c =
-    (omega (arith, c.requires.0.few), c.small.ensures.1, omega (arith, c.ready_ex-r.ensures.1))
+    (omega (arith, c.args.v.now.within.few), omega (arith, c.ready_ex-r.ensures.1))
 
 pub loop-i-preserved : goal.loop-i-preserved
 loop-i-preserved c =
@@ -37,8 +37,8 @@ loop-i-preserved c =
       ap length c.commit_into.ensures ∙ committed_length _ _ _ _ _
           ∙ (ap length c.fetch_into.ensures ∙ (fetched_length _ _ _ _ _ _ ∙ t.invariant.2)),
       λ b U.
-          earliest_turn b c.args.h c.args.u.now U c.args.s.now c.requires.1 t.i (search rules) t.s _ _ _ _
-          (t.invariant.3 b U) c.fetch_into.ensures c.ready_ex-r.ensures.0 c.small.ensures.0 c.commit_into.ensures,
+          earliest_turn b c.args.v.now.shape c.args.v.now.instructions U c.args.s.now (search rules) t.i (search rules) t.s _ _ _ _
+          (t.invariant.3 b U) c.fetch_into.ensures c.ready_ex-r.ensures.0 refl c.commit_into.ensures,
     )
 
 pub returns : goal.returns

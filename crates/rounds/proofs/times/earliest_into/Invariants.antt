@@ -10,4 +10,4 @@ use Rattle.unpacked.specs.inside.UnpackedBlock.{Unpacked}
 use Rattle.rounds.proofs.times.earliest_into.Given as goal
 
 abbrev pub invariant-loop-i : goal.invariant-loop-i
-invariant-loop-i l = (l.n ≡ l.h.n) × (l.i ≤ l.n) × (length l.s ≡ 300) × ((b : Block) → Unpacked b l.h l.u → Filled (ready b (lowest b)) l.initial.s (5 * l.i) l.s)
+invariant-loop-i l = (l.n ≡ l.v.shape.n) × (l.i ≤ l.n) × (length l.s ≡ 300) × ((b : Block) → Unpacked b l.v.shape l.v.instructions → Filled (ready b (lowest b)) l.initial.s (5 * l.i) l.s)

@@ -7,5 +7,5 @@ use Rattle.lists.specs.Sums.{largest}
 use Rattle.pairs.specs.inside.PairRows.{finish_ex}
 use Rattle.rounds.proofs.times.last_of.Given as goal
 
-abbrev pub invariant-loop-k : goal.invariant-loop-k
-invariant-loop-k l = (l.k ≤ length l.row) × (l.last ≡ largest (map (finish_ex l.u l.s) (take l.k l.row))) × (l.last ≤ 65790)
+abbrev pub invariant-loop-i : goal.invariant-loop-i
+invariant-loop-i l = (l.i-index ≤ length l.row) × (l.last ≡ largest (map (finish_ex l.u l.s) (take l.i-index l.row))) × (l.last ≤ 65790)

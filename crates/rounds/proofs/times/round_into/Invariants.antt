@@ -11,6 +11,6 @@ use Rattle.pairs.specs.inside.PairRows.{Even, Rows}
 use Rattle.rounds.proofs.times.round_into.Given as goal
 
 abbrev pub invariant-loop-i : goal.invariant-loop-i
-invariant-loop-i l = (l.n ≡ l.h.n) × (l.i ≤ l.n) × (length l.s ≡ 300)
-    × ((b : Block) (con known : Pairs) → Unpacked b l.h l.u → Rows b.n (rival con known) l.list l.count → Even b.n (rival con known)
+invariant-loop-i l = (l.n ≡ l.v.shape.n) × (l.i ≤ l.n) × (length l.s ≡ 300)
+    × ((b : Block) (con known : Pairs) → Unpacked b l.v.shape l.v.instructions → Rows b.n (rival con known) l.rows → Even b.n (rival con known)
     → Filled (latest_start b (rival con known)) l.initial.s (5 * l.i) l.s)

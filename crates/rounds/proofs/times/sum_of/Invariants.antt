@@ -7,5 +7,5 @@ use Rattle.lists.specs.Sums.{sum}
 use Rattle.unpacked.specs.inside.UnpackedBlock.{high_of}
 use Rattle.rounds.proofs.times.sum_of.Given as goal
 
-abbrev pub invariant-loop-k : goal.invariant-loop-k
-invariant-loop-k l = (l.k ≤ length l.row) × (l.sum ≡ sum (map (high_of l.u) (take l.k l.row))) × (l.sum ≤ 255 * l.k)
+abbrev pub invariant-loop-i : goal.invariant-loop-i
+invariant-loop-i l = (l.i-index ≤ length l.row) × (l.sum ≡ sum (map (high_of l.u) (take l.i-index l.row))) × (l.sum ≤ 255 * l.i-index)

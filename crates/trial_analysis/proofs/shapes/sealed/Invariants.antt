@@ -1,6 +1,0 @@
--- `trial_analysis::shapes::sealed` is safe and ends. Assumes nothing.
-use Prim.Native.Nat.{◌≤◌}
-use Rattle.trial_analysis.proofs.shapes.sealed.Given as goal
-
-abbrev pub invariant-loop-k : goal.invariant-loop-k
-invariant-loop-k l = l.k ≤ 254

@@ -1,6 +1,0 @@
--- `trial_analysis::shapes::shaped` is safe and ends. Assumes nothing.
-use Prim.Native.Nat.{◌≤◌}
-use Rattle.trial_analysis.proofs.shapes.shaped.Given as goal
-
-abbrev pub invariant-loop-i : goal.invariant-loop-i
-invariant-loop-i l = l.i ≤ 60

@@ -1,6 +1,0 @@
--- `trial_second::pairs::rounds` is safe and ends. Assumes nothing.
-use Prim.Native.Nat.{◌≤◌}
-use Rattle.trial_second.proofs.pairs.rounds.Given as goal
-
-abbrev pub invariant-loop-turn : goal.invariant-loop-turn
-invariant-loop-turn l = l.turn ≤ 1771

@@ -1,6 +1,0 @@
--- `trial_second::pairs::weigh_all` is safe and ends. Assumes nothing.
-use Prim.Native.Nat.{◌≤◌}
-use Rattle.trial_second.proofs.pairs.weigh_all.Given as goal
-
-abbrev pub invariant-loop-j : goal.invariant-loop-j
-invariant-loop-j l = l.j ≤ 60

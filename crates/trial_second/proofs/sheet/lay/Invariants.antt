@@ -1,6 +1,0 @@
--- `trial_second::sheet::lay` is safe and ends. Assumes nothing.
-use Prim.Native.Nat.{◌≤◌}
-use Rattle.trial_second.proofs.sheet.lay.Given as goal
-
-abbrev pub invariant-loop-i : goal.invariant-loop-i
-invariant-loop-i l = l.i ≤ 60

@@ -1,0 +1,14 @@
+-- `unpacked::blocks::unpacked_of` meets its contract: the instructions of an accepted block lead nowhere outside. Assumes nothing.
+use Rattle.unpacked.proofs.BlockInstructions.{few, within}
+use Rattle.unpacked.proofs.blocks.unpacked_of.Goals as goal
+
+pub instructions_of-requires : goal.instructions_of-requires
+instructions_of-requires c = few c.args.b c.requires
+
+pub invariant_of-result : goal.invariant_of-result
+invariant_of-result c =
+    let f = c.instructions_of in
+    record { within = within c.args.b _ f.result (record { accepted = c.requires; shape = c.shape_of.ensures; instructions = f.ensures }) }
+
+pub returns : goal.returns
+returns c = (c.shape_of.ensures, c.instructions_of.ensures)
