@@ -75,7 +75,7 @@ pub fn put_result(s: Summary, u: &[Instruction; 60], times: &Times, out: &mut [u
 {
     let head = result_head(s);
     writer::put_head(&head, out);
-    put_all_times(s.n as usize, u, times, out);
+    put_all_times(usize::from(s.n), u, times, out);
     record::seal(out);
 }
 

@@ -101,8 +101,8 @@ pub fn pairs_of(n: usize, rows: &[Row; 60]) -> usize
     ensures { (result ≡ pair_total n rows.now) × (result ≤ 3600) }
 {
     let mut sum = 0;
-    for j in 0..n {
-        sum += rows[j].len();
+    for row in &rows[..n] {
+        sum += row.len();
     }
     sum
 }

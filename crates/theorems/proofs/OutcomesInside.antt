@@ -1,7 +1,7 @@
 -- What the operations give keeps the theorems too: what a play writes lies within what `windows` writes, and its length is at
 -- most the bound that `analyse` writes. Assumes nothing.
 use Prim.Native.Nat.{ℕ, ◌+◌, ◌≤◌, ◌<◌}
-use mathlib.Core.Path.{◌≡◌, refl, sym, ◌∙◌}
+use mathlib.Core.Path.{◌≡◌, sym}
 use mathlib.Core.List.{List}
 use native.Mathlib.Omega.{arith}
 use lib.ListN.{get_or}
@@ -13,11 +13,11 @@ use Rattle.record.specs.declared.Block.{Block}
 use Rattle.record.proofs.Answers.{accepted_so}
 use Rattle.record.proofs.AcceptedRanges.{ranges}
 use Rattle.model.specs.Nodes.{nodes, entry, chosen}
-use Rattle.model.specs.Cycles.{play_length, play_place}
+use Rattle.model.specs.Cycles.{play_place}
 use Rattle.model.specs.Rounds.{window_place}
 use Rattle.model.proofs.Limits.{bound_limit}
 use Rattle.analysis.specs.Promises.{Analyses, WritesWindows}
-use Rattle.play.specs.Refusals.{play_tests, length_tests}
+use Rattle.play.specs.Refusals.{play_tests}
 use Rattle.play.specs.Promises.{Plays, GivesPlayLength}
 use Rattle.play.proofs.Outcomes.{length_fine, play_fine}
 use Rattle.theorems.specs.Words.{Within}

@@ -20,7 +20,7 @@ use Rattle.record.specs.Refusals.{Answer}
 use Rattle.std.specs.Prelude.{Result, Ok as Accepted}
 use Rattle.record.specs.declared.Block.{Block}
 use Rattle.record.proofs.AcceptedRanges.{ranges}
-use Rattle.record.proofs.Answers.{meaning_one, accepted_so}
+use Rattle.record.proofs.Answers.{meaning_one}
 use Rattle.record.proofs.Verdicts.{none, pass, after_accepted}
 use Rattle.model.specs.Nodes.{nodes, chosen}
 use Rattle.model.specs.Cycles.{State, cycles_each, most_cycles, last_cycle, not_started, start, unfit, cycle, first_state, all_started, play_on, play, three_times, play_place}

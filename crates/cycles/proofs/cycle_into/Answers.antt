@@ -1,10 +1,9 @@
 -- `cycles::cycle_into` meets its contract: the turns of the nodes passed. Assumes nothing.
 use mathlib.Core.Path.{refl}
-use Prim.Native.Nat.{◌<◌}
 use native.Mathlib.Omega.{arith}
 use Rattle.model.specs.Nodes.{chosen}
 use Rattle.cycles.specs.declared.Turn.{Turn}
-use Rattle.cycles.proofs.CycleByNode.{passed_none, passed_more, passed_all, turned_lent}
+use Rattle.cycles.proofs.CycleByNode.{passed_none, passed_more, turned_lent}
 use borrow.Author.Rules.{rules}
 use Rattle.cycles.proofs.cycle_into.Goals as goal
 
@@ -20,11 +19,6 @@ loop-v-init c =
       λ b U w. passed_none b (chosen b c.args.lat.now) c.args.t c.args.s.now e.result w (e.ensures.units b c.args.t U.shape.n U.instructions w),
     )
 
-pub node_turn-requires : goal.node_turn-requires
-node_turn-requires c =
-    let few : c.instruction_of.result < c.args.u.now.shape.n = omega (arith, c.instruction_of.ensures, c.loop-v.invariant.0, c.args.u.now.within.few) in
-    (record { now = c.requires.0; one = few }, c.loop-v.invariant.2)
-
 pub loop-v-preserved : goal.loop-v-preserved
 loop-v-preserved c =
     let o = c.loop-v in
@@ -38,11 +32,3 @@ loop-v-preserved c =
           passed_more b c.args.u.now U c.args.lat.now y (omega (arith, U.shape.n, is, o.invariant.0)) (omega arith) c.args.s.now o.v
           (omega (arith, is)) o.s o.ends (o.invariant.3 b U w) _ _ T,
     )
-
-pub returns : goal.returns
-returns c =
-    let o = c.loop-v in
-    record {
-      played = λ b U w.
-          passed_all b (chosen b c.args.lat.now) c.args.t c.args.s.now o.v o.s o.ends (omega (arith, U.shape.n)) (o.invariant.3 b U w);
-    }

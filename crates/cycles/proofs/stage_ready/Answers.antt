@@ -7,13 +7,3 @@ use Rattle.cycles.proofs.stage_ready.Goals as goal
 pub returns-in-Write : goal.returns-in-Write
 unfolding stage_ready ready_wb
 returns-in-Write c = (rw c.in-Write.is cc, omega arith)
-
-pub ready_ex-requires : goal.ready_ex-requires
-ready_ex-requires c =
-    let i = c.args.i in
-    let p = c.requires in
-    let w = c.args.u.now.within in (
-      omega (arith, p.0, w.few),
-      omega (arith, p.0, w.few, w.first i p.0),
-      omega (arith, p.0, w.few, w.second i p.0),
-    )

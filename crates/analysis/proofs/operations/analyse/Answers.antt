@@ -15,9 +15,6 @@ returns-then-out-ne512 c =
     let t = c.in_ok-block_answer.ensures in
     analyse_output _ _ t.whole (sym t.answer) c.if-out-ne512.true
 
-pub result_into-requires : goal.result_into-requires
-result_into-requires c = (sym c.in_ok-block_answer.ensures.answer, c.if-out-ne512.false)
-
 pub returns : goal.returns
 returns c =
     let t = c.in_ok-block_answer.ensures in

@@ -4,5 +4,5 @@ use mathlib.Core.Path.{◌≡◌}
 use Rattle.pairs.specs.inside.PairRows.{pair_total}
 use Rattle.pairs.proofs.rivals.pairs_of.Given as goal
 
-abbrev pub invariant-loop-j : goal.invariant-loop-j
-invariant-loop-j l = (l.j ≤ l.n) × (l.sum ≡ pair_total l.j l.rows) × (l.sum ≤ 60 * l.j)
+abbrev pub invariant-loop-row : goal.invariant-loop-row
+invariant-loop-row l = (l.sum ≡ pair_total l.row-index l.rows) × (l.sum ≤ 60 * l.row-index)

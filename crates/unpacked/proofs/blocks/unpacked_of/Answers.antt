@@ -9,6 +9,3 @@ pub invariant_of-result : goal.invariant_of-result
 invariant_of-result c =
     let f = c.instructions_of in
     record { within = within c.args.b _ f.result (record { accepted = c.requires; shape = c.shape_of.ensures; instructions = f.ensures }) }
-
-pub returns : goal.returns
-returns c = (c.shape_of.ensures, c.instructions_of.ensures)
