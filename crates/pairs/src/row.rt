@@ -5,8 +5,8 @@ ghost use Rattle.pairs.specs.inside.RowNumbers.{Inside};
 // The first `len` of the numbers count.
 #[derive(Clone, Copy)]
 pub struct Row {
-    pub(crate) numbers: [u8; 60],
-    pub(crate) len: usize,
+    pub numbers: [u8; 60],
+    pub len: usize,
     pub ghost few: { len ≤ 60 },
     pub ghost inside: { Inside numbers },
 }

@@ -25,7 +25,7 @@ fn block() -> Block {
 fn show_cycle(b: Block, latencies: &[u8], p: &PlayState) {
     let cycle = p.cycle(b, latencies);
     let answer = answer_of(cycle);
-    let q = state_after(cycle);
+    let q = state_after(&cycle);
     if q == *p {
         print(format_args!("  cycle{answer} kept"));
     } else {

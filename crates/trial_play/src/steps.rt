@@ -18,8 +18,11 @@ pub fn answer_of(cycle: Result<PlayState, RefusedCycle>) -> Answered {
 }
 
 // The state after a cycle: the next one, or at a refusal the one that comes back.
-pub fn state_after(cycle: Result<PlayState, RefusedCycle>) -> PlayState {
-    cycle.unwrap_or_else(|refused| refused.state)
+pub fn state_after(cycle: &Result<PlayState, RefusedCycle>) -> PlayState {
+    match cycle {
+        Ok(state) => *state,
+        Err(refused) => refused.state,
+    }
 }
 
 // Where a walk ends, after how many cycles, and the sum with all states on the way.
@@ -39,7 +42,7 @@ pub fn walk(p: PlayState, b: Block, latencies: &[u8], most: usize, sum: u64) -> 
         sum,
     };
     for k in 0..most {
-        reached.state = state_after(reached.state.cycle(b, latencies));
+        reached.state = state_after(&reached.state.cycle(b, latencies));
         reached.cycles = k + 1;
         reached.sum = sum_state(reached.sum, &reached.state);
         if reached.state.starts[last] != NOT_STARTED {
@@ -67,7 +70,7 @@ pub fn steps(p: PlayState, b: Block, latencies: &[u8], cycles: usize) -> Stepped
         if cycle.is_ok() {
             stepped.accepted = stepped.accepted.saturating_add(1);
         }
-        stepped.state = state_after(cycle);
+        stepped.state = state_after(&cycle);
     }
     stepped
 }

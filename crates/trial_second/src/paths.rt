@@ -1,21 +1,25 @@
 // Paths: for each node, the instructions whose EX a path from it comes to.
 use crate::blocks::repeated;
 use crate::edges::{Edge, Edges};
-use std::array::from_fn;
-
-// A set of instructions: whether each is in it.
-pub type Instructions = [bool; 60];
+use crate::instructions::Instructions;
+use crate::nodes::Node;
 
 pub type Paths = [Instructions; 300];
 
+// The instructions that a node and the paths from it come to.
+fn reached(paths: &Paths, v: Node) -> Instructions {
+    let beyond = paths[v.place()];
+    if v.is_ex() {
+        beyond.with(v.instruction())
+    } else {
+        beyond
+    }
+}
+
 // The set of an edge's first node takes in the second node and its set; gives whether it grew.
 fn take_in(paths: &mut Paths, e: &Edge) -> bool {
-    let beyond = paths[e.to.place()];
     let old = paths[e.from.place()];
-    let mut new: Instructions = from_fn(|i| old[i] || beyond[i]);
-    if e.to.is_ex() {
-        new[e.to.instruction()] = true;
-    }
+    let new = old.union(reached(paths, e.to));
     paths[e.from.place()] = new;
     new != old
 }
@@ -33,7 +37,7 @@ fn sweep(paths: &mut Paths, edges: &Edges) -> bool {
 
 // The paths once no sweep makes a set grow.
 pub fn paths_of(edges: &Edges) -> Paths {
-    let mut paths = [[false; 60]; 300];
+    let mut paths = [Instructions::default(); 300];
     repeated(302, || sweep(&mut paths, edges));
     paths
 }

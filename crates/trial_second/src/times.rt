@@ -1,8 +1,8 @@
 // Times by relaxation: sweeps over the edges until one changes nothing.
 use crate::blocks::{column, latency_of, repeated};
 use crate::edges::{Edge, Edges, Sort};
-use crate::nodes::{Node, Stage};
-use crate::paths::Instructions;
+use crate::instructions::Instructions;
+use crate::nodes::Node;
 use record::Block;
 use std::array::from_fn;
 
@@ -46,12 +46,9 @@ fn short(x: u32) -> u16 {
 }
 
 // The largest finish among the EX of a set.
-fn largest_finish(sheet: &Sheet, set: &Instructions) -> u32 {
-    (0..60)
-        .filter(|i| set[*i])
-        .map(|i| sheet[Node::new(i, Stage::Ex).place()].finish)
-        .max()
-        .unwrap_or(0)
+fn largest_finish(sheet: &Sheet, set: Instructions) -> u32 {
+    let finishes = set.members().map(|v| sheet[v.place()].finish);
+    finishes.max().unwrap_or(0)
 }
 
 // When a node starts, being ready at a given time.
@@ -63,7 +60,7 @@ fn start_of(sheet: &Sheet, setting: &Setting, v: Node, ready: u32) -> u32 {
     let weight = setting.weights[i];
     let blocked = ready.saturating_add(weight.later);
     let all = blocked.saturating_add(weight.earlier);
-    all.min(blocked.max(largest_finish(sheet, &setting.open[i])))
+    all.min(blocked.max(largest_finish(sheet, setting.open[i])))
 }
 
 // The times of a node that is ready at a given time.
@@ -121,7 +118,7 @@ pub fn relaxed(edges: &Edges, setting: &Setting) -> Sheet {
 pub fn earliest(b: &Block, edges: &Edges) -> Sheet {
     let setting = Setting {
         latencies: column(b, |e| e.lo),
-        open: [[false; 60]; 60],
+        open: [Instructions::default(); 60],
         weights: [Weight::default(); 60],
     };
     relaxed(edges, &setting)
